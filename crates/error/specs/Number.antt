@@ -1,0 +1,32 @@
+-- The paper's number of each refusal.
+use Prim.Native.Nat.{ℕ}
+use Rattle.error.specs.declared.Error.{Error}
+use Rattle.error.specs.declared.Error.the-variants.{TooFewSlots, ZeroSize, TooManyPackets, LayoutOverflow, TooLarge, BlockLength, BaseAddress, Unsound, WrongHand, CommitTooLong, PacketCount, PacketTooLong, Disconnected, UsbfsMemory, PermissionDenied, Unsupported, Io, StrayNotice, Underrun, ListTooShort, UnsupportedSpeed, InvalidInterval, ZeroPacketBytes, ZeroPackets, ProductOverflow, NotIsochronous}
+
+abbrev pub numberOf : Error → ℕ
+numberOf TooFewSlots = 1
+numberOf ZeroSize = 2
+numberOf TooManyPackets = 3
+numberOf LayoutOverflow = 4
+numberOf TooLarge = 5
+numberOf BlockLength = 6
+numberOf BaseAddress = 7
+numberOf Unsound = 8
+numberOf WrongHand = 9
+numberOf CommitTooLong = 10
+numberOf PacketCount = 11
+numberOf PacketTooLong = 12
+numberOf Disconnected = 13
+numberOf (UsbfsMemory bytes) = 14
+numberOf PermissionDenied = 15
+numberOf Unsupported = 16
+numberOf (Io errno) = 17
+numberOf StrayNotice = 18
+numberOf (Underrun count) = 19
+numberOf ListTooShort = 20
+numberOf UnsupportedSpeed = 21
+numberOf InvalidInterval = 22
+numberOf ZeroPacketBytes = 23
+numberOf ZeroPackets = 24
+numberOf ProductOverflow = 25
+numberOf NotIsochronous = 26

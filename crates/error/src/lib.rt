@@ -1,0 +1,77 @@
+// The refusals of the port, one case for each number of the paper, with the values that it carries.
+// Names are those of the Rust's error.rs where it has the case.
+ghost use mathlib.Core.Path.{_≡_};
+ghost use Rattle.error.specs.Number.{numberOf};
+
+pub enum Error {
+    // Layout and opening: 1 to 7.
+    TooFewSlots,
+    ZeroSize,
+    TooManyPackets,
+    LayoutOverflow,
+    TooLarge,
+    BlockLength,
+    BaseAddress,
+    // Every call: 8 and 9.
+    Unsound,
+    WrongHand,
+    // The commits: 10 to 12.
+    CommitTooLong,
+    PacketCount,
+    PacketTooLong,
+    // What the kernel answered: 13 to 17. UsbfsMemory carries the ring's payload bytes, Io the errno.
+    Disconnected,
+    UsbfsMemory(u64),
+    PermissionDenied,
+    Unsupported,
+    Io(u32),
+    // A notice for a slot that is Free: 18.
+    StrayNotice,
+    // The underrun policy Error: 19, with the count of underruns.
+    Underrun(u64),
+    // stop's list: 20.
+    ListTooShort,
+    // Schedule and descriptor: 21 to 26.
+    UnsupportedSpeed,
+    InvalidInterval,
+    ZeroPacketBytes,
+    ZeroPackets,
+    ProductOverflow,
+    NotIsochronous,
+}
+
+impl Error {
+    // The refusal's number.
+    pub fn number(self) -> u32
+        ensures { λ r. ⌜ r ≡ numberOf self ⌝ }
+    {
+        match self {
+            Error::TooFewSlots => 1,
+            Error::ZeroSize => 2,
+            Error::TooManyPackets => 3,
+            Error::LayoutOverflow => 4,
+            Error::TooLarge => 5,
+            Error::BlockLength => 6,
+            Error::BaseAddress => 7,
+            Error::Unsound => 8,
+            Error::WrongHand => 9,
+            Error::CommitTooLong => 10,
+            Error::PacketCount => 11,
+            Error::PacketTooLong => 12,
+            Error::Disconnected => 13,
+            Error::UsbfsMemory(_) => 14,
+            Error::PermissionDenied => 15,
+            Error::Unsupported => 16,
+            Error::Io(_) => 17,
+            Error::StrayNotice => 18,
+            Error::Underrun(_) => 19,
+            Error::ListTooShort => 20,
+            Error::UnsupportedSpeed => 21,
+            Error::InvalidInterval => 22,
+            Error::ZeroPacketBytes => 23,
+            Error::ZeroPackets => 24,
+            Error::ProductOverflow => 25,
+            Error::NotIsochronous => 26,
+        }
+    }
+}

@@ -1,0 +1,4 @@
+pub mod Raw
+pub mod Bounds
+pub mod Intervals
+pub mod Edges
