@@ -7,4 +7,5 @@ run:
 
 test:
 	@rt fmt --check
+	@tests/usbfs_header
 	@rt ci

@@ -2,6 +2,7 @@
 // Names are those of the Rust's error.rs where it has the case.
 ghost use mathlib.Core.Path.{_≡_};
 ghost use Rattle.error.specs.Number.{numberOf};
+ghost use Rattle.error.specs.Errno.{fromErrno};
 
 pub enum Error {
     // Layout and opening: 1 to 7.
@@ -40,7 +41,31 @@ pub enum Error {
     NotIsochronous,
 }
 
+// Which call an errno came from: a submission, with the ring's payload bytes, or another.
+pub enum ErrnoContext {
+    Submit { bytes: u64 },
+    Other,
+}
+
 impl Error {
+    // The refusal that a kernel's errno means.
+    pub fn from_errno(errno: u32, context: ErrnoContext) -> Error
+        ensures { λ r. ⌜ r ≡ fromErrno errno context ⌝ }
+    {
+        match errno {
+            19 => Error::Disconnected,
+            108 => Error::Disconnected,
+            12 => match context {
+                ErrnoContext::Submit { bytes } => Error::UsbfsMemory(bytes),
+                ErrnoContext::Other => Error::Io(errno),
+            },
+            13 => Error::PermissionDenied,
+            1 => Error::PermissionDenied,
+            25 => Error::Unsupported,
+            _ => Error::Io(errno),
+        }
+    }
+
     // The refusal's number.
     pub fn number(self) -> u32
         ensures { λ r. ⌜ r ≡ numberOf self ⌝ }
