@@ -1,0 +1,55 @@
+-- `layout::RingLayout::new` meets its contract: the tests of the sizes come first in the list, 4 after them, and where none holds the
+-- layout is made. Assumes nothing.
+use mathlib.Core.Path.{_≡_, sym, _∙_}
+use mathlib.Core.Option.{none}
+use borrow.Author.Needs.{needs}
+use Rattle.layout.specs.Tests.{first}
+use Rattle.layout.specs.Layout.{sizes, laid, laidOut}
+use Rattle.layout.proofs.Refusals.{first-early, first-late, passed-none, refused-some, sized}
+use Rattle.layout.proofs.Strides.{total-fits}
+use Rattle.layout.proofs.RingLayout.new.Statement.{statement}
+use Rattle.layout.proofs.RingLayout.new.Tie as tie
+
+passing : (c : tie.After-enum-told) → let a = c .before .before .before .args in first (sizes (a .slots) (a .packets-per-urb) (a .packet-bytes)) ≡ none
+passing c = passed-none _ _ (c .before .before .test-sizes .ensures) (c .enum-told .given .1)
+
+overflows-requires : tie.Need-overflows-requires
+overflows-requires c κs = sized _ _ _ (passing c)
+
+returns : tie.Need-returns
+unfolding laidOut laid first
+returns c =
+    rw (first-late _ _ (passing (c .before .before)), sym (c .before .overflows .ensures), c .if1 .taken)
+
+of-requires : tie.Need-of-requires
+of-requires c κs =
+    let z = sized _ _ _ (passing (c .before .before)) in
+    (z, total-fits _ _ _ z (sym (c .before .overflows .ensures) ∙ c .if1 .left))
+
+returns-2 : tie.Need-returns-2
+unfolding laidOut laid first
+returns-2 c =
+    rw (first-early _ _ _ (refused-some _ _ _ (c .before .before .before .test-sizes .ensures) (c .before .e .given .1)))
+
+returns-3 : tie.Need-returns-3
+unfolding laidOut laid first
+returns-3 c =
+    rw (
+      first-late _ _ (passing (c .before .before .before)),
+      sym (c .before .before .overflows .ensures),
+      c .before .if1 .left,
+      c .of .ensures,
+    )
+
+pub new-spec : {M : Type 1} → statement M
+new-spec =
+    tie.close
+    (tie.spec
+    (λ c κs. search needs)
+    (λ c. search needs)
+    (λ c. search needs)
+    overflows-requires
+    returns
+    of-requires
+    returns-2
+    returns-3)

@@ -1,0 +1,37 @@
+-- `layout::Setup::places` meets its contract: the layout is that of the setup, so the values are the slot's places, and their bounds
+-- are those of every slot of an accepted setup. Assumes nothing.
+use native.Mathlib.Omega.{arith}
+use Rattle.layout.specs.Places.{placesOf, Placed}
+use Rattle.layout.proofs.Acceptance.{accepts}
+use Rattle.layout.proofs.Slots.{placed}
+use Rattle.layout.proofs.Setup.places.Statement.{statement}
+use Rattle.layout.proofs.Setup.places.Tie as tie
+
+known : (c : tie.Start) → Placed (c .args .self) (c .args .i) (placesOf (c .args .self) (c .args .i))
+known c = placed _ _ (accepts _ (c .pre .0)) (omega arith) (c .pre .1)
+
+layout-of-requires : tie.Need-layout-of-requires
+layout-of-requires c κs = accepts _ (c .pre .0) .limits
+
+mul-header : tie.Need-mul-header
+unfolding placesOf
+mul-header c = rw (c .before .layout-of .ensures) (omega (arith, known (c .before .before)))
+
+add-t5 : tie.Need-add-t5
+unfolding placesOf
+add-t5 c = rw (c .before .layout-of .ensures) (omega (arith, known (c .before .before)))
+
+mul-t6 : tie.Need-mul-t6
+unfolding placesOf
+mul-t6 c = rw (c .before .before .layout-of .ensures) (omega (arith, known (c .before .before .before)))
+
+add-t7 : tie.Need-add-t7
+unfolding placesOf
+add-t7 c = rw (c .before .before .before .layout-of .ensures) (omega (arith, known (c .before .before .before .before)))
+
+returns : tie.Need-returns
+unfolding placesOf
+returns c = rw (c .before .before .before .layout-of .ensures) (known (c .before .before .before .before))
+
+pub places-spec : {M : Type 1} → statement M
+places-spec = tie.close (tie.spec layout-of-requires mul-header add-t5 mul-t6 add-t7 returns)

@@ -1,0 +1,4 @@
+pub mod Tests
+pub mod Layout
+pub mod Opening
+pub mod Places
