@@ -1,0 +1,11 @@
+pub mod Truth
+pub mod Counts
+pub mod Queue
+pub mod States
+pub mod Hands
+pub mod Wide
+pub mod Moves
+pub mod Sound
+pub mod Walk
+pub mod Pigeonhole
+pub mod Kept
