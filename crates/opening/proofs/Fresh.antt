@@ -1,0 +1,89 @@
+-- Laws of the record that opening makes: it is sound, its tables have their 256 places, and the one that comes with a refusal is not sound.
+-- All slots are Free and each stands once in the queue. Assumes nothing.
+use Prim.Native.Nat.{ℕ, zero, suc, _-_, _≤_}
+use native.Mathlib.Omega.{arith}
+use mathlib.Core.Path.{_≡_, refl, sym, ap}
+use mathlib.Core.Bool.{Bool, true, false}
+use lib.ListN.{getD, replicate, length-append, length-replicate}
+use lib.Seq.{take-at}
+use Rattle.layout.specs.declared.Setup.{Setup}
+use Rattle.layout.specs.Tests.{first, passed}
+use Rattle.layout.specs.Layout.{sizes}
+use Rattle.layout.specs.Opening.{limits, accepted}
+use Rattle.layout.proofs.Acceptance.{accepts}
+use Rattle.ring.specs.declared.Cell.{Cell}
+use Rattle.ring.specs.declared.Hand.{Hand}
+use Rattle.ring.specs.declared.SlotState.{SlotState}
+use Rattle.ring.specs.Slots.{isFree, isFilling, isOut, one, holds, handWithin}
+use Rattle.ring.specs.Parts.{queueOf, stateOf}
+use Rattle.ring.specs.Counts.{howMany}
+use Rattle.ring.proofs.Sound.{Sound, facts-sound}
+use Rattle.ring.proofs.Wide.{Wide}
+use Rattle.stream.specs.Sound.{sound}
+use Rattle.stream.specs.Opened.{slotNumbers, freeRing, openedStream, noSetup, noStream}
+use Rattle.opening.proofs.Queue.{length-numbers, numbers-once, numbers-below}
+
+-- a Free slot's place in the table of states
+freeCell : Cell
+freeCell = record { state = SlotState.Free }
+
+-- a table of those shows Free at every place, and past its end
+states-free : (m i : ℕ) → getD (replicate m freeCell) i freeCell .state ≡ SlotState.Free
+unfolding freeCell
+states-free zero i = refl
+states-free (suc m) zero = refl
+states-free (suc m) (suc i) = states-free m i
+
+pub all-free : (n i : ℕ) → stateOf (freeRing n) i ≡ SlotState.Free
+unfolding stateOf freeRing freeCell
+all-free n i = states-free 256 i
+
+-- the queue is 0..n-1
+pub queue-all : (n : ℕ) → queueOf (freeRing n) ≡ slotNumbers n
+unfolding queueOf freeRing
+queue-all n = take-at (slotNumbers n) (replicate (256 - n) 0) n (length-numbers n)
+
+-- none of n passes
+none-count : (test : ℕ → Bool) → ((i : ℕ) → test i ≡ false) → (n : ℕ) → howMany n test ≡ 0
+unfolding howMany one
+none-count test p zero = refl
+none-count test p (suc n) = rw (p n, none-count test p n)
+
+fresh-facts : (n : ℕ) → n ≤ 256 → Sound n (freeRing n) Hand.Idle
+unfolding isFree isFilling isOut one holds handWithin freeRing
+fresh-facts n h =
+    record {
+      few = h;
+      short = h;
+      below = rw (queue-all n) (numbers-below n n (omega arith));
+      queued = λ i l. rw (queue-all n, all-free n i) (numbers-once i n l);
+      out = sym (none-count (λ i. isOut (stateOf (freeRing n) i)) (λ i. ap isOut (all-free n i)) n);
+      within = refl;
+      held = λ i l. ap isFilling (all-free n i);
+    }
+
+pub opened-sound : (s : Setup) → accepted s ≡ true → sound (openedStream s) ≡ true
+unfolding sound openedStream
+opened-sound s a =
+    rw (a, facts-sound (s .slots) (freeRing (s .slots)) Hand.Idle (fresh-facts (s .slots) (accepts s a .limits .slots)))
+
+pub free-wide : (n : ℕ) → n ≤ 256 → Wide (freeRing n)
+unfolding freeRing
+free-wide n h =
+    record {
+      table = refl;
+      places = rw (length-append, length-numbers n, length-replicate) (omega arith);
+    }
+
+pub opened-wide : (s : Setup) → accepted s ≡ true → Wide (openedStream s .ring)
+unfolding openedStream
+opened-wide s a = free-wide (s .slots) (accepts s a .limits .slots)
+
+-- opening refuses the values of the record of no slots, so every call gives 8 on that record
+pub no-setup-refused : accepted noSetup ≡ false
+unfolding noSetup accepted limits sizes first passed
+no-setup-refused = refl
+
+pub no-stream-unsound : sound noStream ≡ false
+unfolding sound noStream openedStream
+no-stream-unsound = rw no-setup-refused

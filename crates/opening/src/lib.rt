@@ -1,0 +1,159 @@
+// Opening a ring: the record of a fresh stream, and its block with the headers of all slots.
+use layout::Opens;
+use layout::Setup;
+use layout::Underrun;
+use ring::Cell;
+use ring::Hand;
+use ring::Ring;
+use ring::SlotState;
+use stream::Answer;
+use stream::Flags;
+use stream::IsoStats;
+use stream::Reply;
+use stream::Stream;
+use sys::Urb;
+ghost use mathlib.Core.Path.{_≡_};
+ghost use mathlib.Core.Bool.{true};
+ghost use mathlib.Core.List.{_++_};
+ghost use Prim.Native.Nat.{_-_, _≤_, _<_};
+ghost use lib.ListN.{length, replicate};
+ghost use Rattle.layout.specs.Opening.{totalOf, accepted};
+ghost use Rattle.ring.specs.declared.SlotState.{SlotState};
+ghost use Rattle.stream.specs.Opened.{slotNumbers, openedStream, noSetup};
+ghost use Rattle.opening.specs.Open.{openedHeader, openedBlock, openOutcome};
+
+// Internal: every slot Free.
+fn all_free() -> [Cell; 256]
+    ensures { λ r. ⌜ r ≡ replicate 256 (record { state = SlotState.Free }) ⌝ }
+{
+    [Cell {
+        state: SlotState::Free,
+    }; 256]
+}
+
+// Internal: an empty queue's places.
+fn no_slots() -> [u8; 256]
+    ensures { λ r. ⌜ r ≡ replicate 256 0 ⌝ }
+{
+    [0; 256]
+}
+
+// Internal: the queue 0..n-1 in its places.
+fn slot_numbers(n: usize) -> [u8; 256]
+    requires { ⌜ n ≤ 256 ⌝ }
+    ensures { λ r. ⌜ r ≡ slotNumbers n ++ replicate (256 - n) 0 ⌝ }
+{
+    let mut free = no_slots();
+    for i in 0..n {
+        free[i] = i as u8;
+    }
+    free
+}
+
+// Internal: the record of a ring that was just opened with these values.
+fn opened(setup: Setup) -> Stream
+    requires { ⌜ setup .slots ≤ 256 ⌝ }
+    ensures { λ r. ⌜ r ≡ openedStream setup ⌝ }
+{
+    let states = all_free();
+    let free = slot_numbers(setup.slots);
+    Stream {
+        setup,
+        ring: Ring {
+            states,
+            free,
+            free_len: setup.slots,
+            in_flight: 0,
+        },
+        hand: Hand::Idle,
+        flags: Flags {
+            started: false,
+            armed: false,
+        },
+        stats: IsoStats {
+            urbs_submitted: 0,
+            urbs_completed: 0,
+            bytes_submitted: 0,
+            bytes_transferred: 0,
+            short_bytes: 0,
+            packet_errors: 0,
+            urb_errors: 0,
+            underruns: 0,
+        },
+    }
+}
+
+// Internal: the values of the record that comes with a refusal.
+fn no_setup() -> Setup
+    ensures { λ r. ⌜ r ≡ noSetup ⌝ }
+{
+    Setup {
+        slots: 0,
+        packets_per_urb: 0,
+        packet_bytes: 0,
+        endpoint: 0,
+        underrun: Underrun::Continue,
+        silence_byte: 0,
+        base: 0,
+        tagged: false,
+    }
+}
+
+// Internal: every byte zero.
+fn clear(block: &mut [u8])
+    ensures { λ _. ⌜ now (block .exit) ≡ replicate (length (now (block .entry))) 0 ⌝ }
+{
+    for i in 0..block.len() {
+        block[i] = 0;
+    }
+}
+
+// Internal: the header of slot i.
+fn header_of(setup: Setup, i: usize) -> Urb
+    requires { ⌜ (accepted setup ≡ true) × (i < setup .slots) ⌝ }
+    ensures { λ r. ⌜ r ≡ openedHeader setup i ⌝ }
+{
+    let places = setup.places(i);
+    Urb::new(
+        setup.endpoint,
+        (setup.base + places.payload) as u64,
+        places.capacity as i32,
+        places.packets as i32,
+        i as u64,
+    )
+}
+
+// Internal: clears the block, then writes the fields that never change again into each header.
+fn init_headers(setup: Setup, block: &mut [u8])
+    requires { ⌜ (accepted setup ≡ true) × (length (now block) ≡ totalOf setup) ⌝ }
+    ensures { λ _. ⌜ now (block .exit) ≡ openedBlock setup ⌝ }
+{
+    clear(block);
+    for i in 0..setup.slots {
+        let places = setup.places(i);
+        let urb = header_of(setup, i);
+        urb.write(block, places.header);
+    }
+}
+
+// Opens a ring in the block, or refuses with 1, 2, 3, 5, 6 or 7 and leaves the block alone.
+pub fn open(setup: Setup, block: &mut [u8]) -> Reply
+    ensures { λ r.
+        ⌜ (r .answer ≡ openOutcome setup (now (block .entry)) .answer)
+        × (r .stream ≡ openOutcome setup (now (block .entry)) .stream)
+        × (now (block .exit) ≡ openOutcome setup (now (block .entry)) .block) ⌝ }
+{
+    match setup.refusal(block.len()) {
+        Opens::Refused(e) => Reply {
+            stream: opened(no_setup()),
+            answer: Answer::Refused(e),
+        },
+        Opens::Yes(_) => {
+            init_headers(setup, block);
+            Reply {
+                stream: opened(setup),
+                answer: Answer::Done,
+            }
+        }
+    }
+}

@@ -1,0 +1,111 @@
+// The record of an output stream, the kernel's replies, and the answers of the calls.
+use error::Error;
+use layout::Setup;
+use ring::Hand;
+use ring::Ring;
+ghost use mathlib.Core.Path.{_≡_};
+ghost use Rattle.stream.specs.Sound.{sound, gateOf};
+
+// Running totals, each modulo 2^64.
+pub struct IsoStats {
+    pub urbs_submitted: u64,
+    pub urbs_completed: u64,
+    pub bytes_submitted: u64,
+    pub bytes_transferred: u64,
+    pub short_bytes: u64,
+    pub packet_errors: u64,
+    pub urb_errors: u64,
+    pub underruns: u64,
+}
+
+// Started: between start and stop. Armed: a URB was accepted since, so that a drained ring is an underrun.
+pub struct Flags {
+    pub started: bool,
+    pub armed: bool,
+}
+
+// All that the stream keeps: opening's values, slots and queue, the hand, flags and counters.
+pub struct Stream {
+    pub setup: Setup,
+    pub ring: Ring,
+    pub hand: Hand,
+    pub flags: Flags,
+    pub stats: IsoStats,
+}
+
+// What the kernel answered to SUBMITURB.
+pub enum Submission {
+    Accepted,
+    Errno(u32),
+}
+
+// What the kernel answered to REAPURBNDELAY.
+pub enum Reaping {
+    Errno(u32),
+    Address(usize),
+}
+
+// The outcome of one URB, as the kernel filled it in.
+pub struct Completion {
+    pub status: i32,
+    pub actual_bytes: u64,
+    pub requested_bytes: u64,
+    pub short_bytes: u64,
+    pub packet_errors: u64,
+    pub was_discarded: bool,
+}
+
+// A call's answer. Stopped is stop's Done, with how many slots it listed.
+pub enum Answer {
+    Refused(Error),
+    Done,
+    Stopped(usize),
+    Nothing,
+    Slot(usize),
+    Submit(usize),
+    Completed(Completion),
+    Foreign,
+    Yes,
+}
+
+// What every call gives back: the record and the answer.
+pub struct Reply {
+    pub stream: Stream,
+    pub answer: Answer,
+}
+
+// Whether a call that is lent a block may look at the hand.
+pub enum Gate {
+    Open,
+    Refused(Error),
+}
+
+impl Stream {
+    // Whether the record breaks nothing of refusal 8's list, whatever it holds.
+    pub fn sound(self) -> bool
+        ensures { λ r. ⌜ r ≡ sound self ⌝ }
+    {
+        let setup = self.setup;
+        if !setup.accepted() {
+            return false;
+        }
+        let ring = self.ring;
+        let hand = self.hand;
+        ring.sound(setup.slots, hand)
+    }
+
+    // Refusal 8, then 6: what every call that is lent a block tests first.
+    pub fn gate(self, block_len: usize) -> Gate
+        ensures { λ r. ⌜ r ≡ gateOf self «block_len» ⌝ }
+    {
+        if !self.sound() {
+            return Gate::Refused(Error::Unsound);
+        }
+        let setup = self.setup;
+        let layout = setup.layout_of();
+        if block_len != layout.total_bytes {
+            return Gate::Refused(Error::BlockLength);
+        }
+        Gate::Open
+    }
+}
