@@ -1,0 +1,7 @@
+pub mod Table
+pub mod View
+pub mod Valid
+pub mod Moves
+pub mod Kept
+pub mod Rings
+pub mod Calls

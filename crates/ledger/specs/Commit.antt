@@ -1,0 +1,47 @@
+-- commit, commit_full, commit_packets (Held).
+use Prim.Native.Nat.{ℕ}
+use mathlib.Core.Bool.{Bool, false, cond, not, _||_}
+use mathlib.Core.List.{List, [], _∷_}
+use lib.Dec.{ltb, eqb}
+use lib.ListN.{length}
+use Rattle.error.specs.declared.Error.{Error}
+use Rattle.layout.specs.declared.Setup.{Setup}
+use Rattle.ring.specs.declared.Hand.{Hand}
+use Rattle.stream.specs.declared.Answer.{Answer}
+use Rattle.ledger.specs.Ledger.{Ledger, withHand}
+use Rattle.ledger.specs.Block.{shares, capacityOf, committed}
+use Rattle.ledger.specs.Step.{Next, refused, onBlock, onHeld, putBack}
+
+-- The lengths are written; hand Sending(i), answer Submit(i).
+unfoldable pub send : Setup → ℕ → List ℕ → Ledger → List ℕ → Next
+send s i lengths l block =
+    record { ledger = withHand (Hand.Sending i) l; answer = Answer.Submit i; lent = committed s i lengths block }
+
+-- Refused 10 for more than the capacity: the block is untouched and the slot is returned, Idle.
+unfoldable pub commitHeld : Setup → ℕ → ℕ → Ledger → List ℕ → Next
+commitHeld s bytes i l block =
+    cond (ltb (capacityOf s) bytes) (putBack i (Answer.Refused Error.CommitTooLong) l block)
+    (send s i (shares (s .«packets_per_urb») (s .«packet_bytes») bytes) l block)
+
+unfoldable pub commit : ℕ → Setup → Ledger → List ℕ → Next
+commit bytes s l block = onBlock s l block (onHeld (l .hand) (λ i. commitHeld s bytes i l block) (refused Error.WrongHand l block))
+
+-- commit_full is commit of the capacity.
+unfoldable pub commitFull : Setup → Ledger → List ℕ → Next
+commitFull s = commit (capacityOf s) s
+
+-- A length above b.
+unfoldable pub anyAbove : ℕ → List ℕ → Bool
+anyAbove b [] = false
+anyAbove b (x ∷ xs) = ltb b x || anyAbove b xs
+
+-- commit_packets takes its list: 11 not p lengths, then 12 a length above b.
+unfoldable pub packetsHeld : Setup → List ℕ → ℕ → Ledger → List ℕ → Next
+packetsHeld s lengths i l block =
+    cond (not (eqb (length lengths) (s .«packets_per_urb»))) (putBack i (Answer.Refused Error.PacketCount) l block)
+    (cond (anyAbove (s .«packet_bytes») lengths) (putBack i (Answer.Refused Error.PacketTooLong) l block)
+    (send s i lengths l block))
+
+unfoldable pub commitPackets : List ℕ → Setup → Ledger → List ℕ → Next
+commitPackets lengths s l block =
+    onBlock s l block (onHeld (l .hand) (λ i. packetsHeld s lengths i l block) (refused Error.WrongHand l block))

@@ -1,0 +1,9 @@
+pub mod Ledger
+pub mod Block
+pub mod Step
+pub mod Turn
+pub mod Commit
+pub mod Submitted
+pub mod Reaped
+pub mod Control
+pub mod Record

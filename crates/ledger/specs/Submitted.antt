@@ -1,0 +1,67 @@
+-- submitted (Sending, Silent).
+use Prim.Native.Nat.{ℕ, zero, suc, _*_}
+use mathlib.Core.Bool.{true}
+use mathlib.Core.List.{List}
+use Rattle.error.specs.declared.Error.{Error}
+use Rattle.error.specs.Errno.{fromErrno}
+use Rattle.error.specs.declared.ErrnoContext.{ErrnoContext}
+use Rattle.layout.specs.declared.Setup.{Setup}
+use Rattle.ring.specs.declared.Hand.{Hand}
+use Rattle.stream.specs.declared.Answer.{Answer}
+use Rattle.stream.specs.declared.IsoStats.{IsoStats}
+use Rattle.stream.specs.declared.Submission.{Submission}
+use Rattle.ledger.specs.Ledger.{Ledger, out, withHand, withFlags, withTotals, marked, plus}
+use Rattle.ledger.specs.Block.{bufferBytes}
+use Rattle.ledger.specs.Step.{Next, refused, onBlock, putBack}
+use Rattle.ledger.specs.Turn.{takeFront, silenceFront}
+
+-- The totals with one more submission of that many bytes.
+unfoldable pub oneSubmitted : ℕ → IsoStats → IsoStats
+oneSubmitted bytes t =
+    record {
+      «urbs_submitted» = plus (t .«urbs_submitted») 1;
+      «urbs_completed» = t .«urbs_completed»;
+      «bytes_submitted» = plus (t .«bytes_submitted») bytes;
+      «bytes_transferred» = t .«bytes_transferred»;
+      «short_bytes» = t .«short_bytes»;
+      «packet_errors» = t .«packet_errors»;
+      «urb_errors» = t .«urb_errors»;
+      underruns = t .underruns;
+    }
+
+-- InFlight, submitted + 1, bytes submitted + max(0, buffer length in the block), armed. The hand lets go of the slot.
+unfoldable pub acceptedLedger : Setup → ℕ → Ledger → List ℕ → Ledger
+acceptedLedger s i l block =
+    withHand Hand.Idle (withTotals (oneSubmitted (bufferBytes s i block) (l .totals)) (withFlags (l .started) true (marked i out l)))
+
+-- Slot returned, Idle, then 13 to 17 by the errno; 14 with n × p × b.
+unfoldable pub submitFailed : Setup → ℕ → ℕ → Ledger → List ℕ → Next
+submitFailed s i errno l block =
+    putBack i
+    (Answer.Refused (fromErrno errno (ErrnoContext.Submit (s .slots * s .«packets_per_urb» * s .«packet_bytes»))))
+    l block
+
+-- From Sending: Idle, Done.
+unfoldable pub sent : Setup → Submission → ℕ → Ledger → List ℕ → Next
+sent s Submission.Accepted i l block =
+    record { ledger = acceptedLedger s i l block; answer = Answer.Done; lent = block }
+sent s (Submission.Errno e) i l block = submitFailed s i e l block
+
+-- From Silent: with left 1 the next front slot is silenced with left 0; with left 0 as turn's taking.
+unfoldable pub chained : Setup → ℕ → Ledger → List ℕ → Next
+chained s zero l block = takeFront (l .queue) l block
+chained s (suc more) l block = silenceFront s more (l .queue) l block
+
+unfoldable pub silent : Setup → Submission → ℕ → ℕ → Ledger → List ℕ → Next
+silent s Submission.Accepted i left l block = chained s left (acceptedLedger s i l block) block
+silent s (Submission.Errno e) i left l block = submitFailed s i e l block
+
+-- By the hand; 9 for a wrong one.
+unfoldable pub bySending : Hand → Setup → Submission → Ledger → List ℕ → Next
+bySending Hand.Idle s reply l block = refused Error.WrongHand l block
+bySending (Hand.Held i) s reply l block = refused Error.WrongHand l block
+bySending (Hand.Sending i) s reply l block = sent s reply i l block
+bySending (Hand.Silent i left) s reply l block = silent s reply i left l block
+
+unfoldable pub submitted : Submission → Setup → Ledger → List ℕ → Next
+submitted reply s l block = onBlock s l block (bySending (l .hand) s reply l block)

@@ -1,0 +1,1 @@
+// No code: the ledger that the calls' contracts cite (specs/), and its laws (proofs/).
