@@ -1,0 +1,9 @@
+-- The two sums of a completion.
+use mathlib.Core.List.{List}
+use Rattle.sys.specs.declared.descriptor.IsoPacketDesc.{IsoPacketDesc}
+use Rattle.ledger.specs.Block
+use Rattle.notice.specs.declared.Sums.{Sums}
+
+-- The sum of lengths, and the sum of max(0, length - actual).
+unfoldable pub sumsOf : List IsoPacketDesc → Sums
+sumsOf packets = record { requested = Block.requested packets; short = Block.short packets }

@@ -1,0 +1,112 @@
+// What submitted and reaped read from the block. A call has tested the setup, the block's length and the slot's number before it asks.
+use layout::Setup;
+use layout::masked;
+use ring::Found;
+use stream::Completion;
+use sys::IsoPacketDesc;
+use sys::Urb;
+use sys::field::get_i32;
+use sys::field::get_non_negative;
+use sys::field::get_u64;
+ghost use mathlib.Core.Path.{_≡_};
+ghost use mathlib.Core.Bool.{true};
+ghost use Prim.Native.Nat.{_-_, _*_, _≤_, _<_};
+ghost use lib.ListN.{length};
+ghost use Rattle.sys.specs.Descriptor.{descSize};
+ghost use Rattle.layout.specs.Opening.{accepted, totalOf};
+ghost use Rattle.ledger.specs.Block.{bufferBytes, packetsAt, completionOf};
+ghost use Rattle.ledger.specs.Reaped.{slotAt, slotOfUrb};
+ghost use Rattle.notice.specs.Sums.{sumsOf};
+
+// The two sums over a slot's packets.
+struct Sums {
+    pub requested: u64,
+    pub short: u64,
+}
+
+// Internal: slot i's buffer length, or 0 where it is negative.
+pub fn buffer_bytes(setup: Setup, block: &[u8], i: usize) -> u64
+    requires { ⌜ (accepted setup ≡ true) × (i < setup .slots) × (length (now block) ≡ totalOf setup) ⌝ }
+    ensures { λ r. ⌜ r ≡ bufferBytes setup i (now (block .entry)) ⌝ }
+{
+    let at = setup.places(i);
+    get_non_negative(block, at.header + Urb::BUFFER_LENGTH)
+}
+
+// What `actual` lacks of `length`.
+fn lacking(length: u64, actual: u64) -> u64
+    ensures { λ r. ⌜ r ≡ length - actual ⌝ }
+{
+    if actual < length { length - actual } else { 0 }
+}
+
+// Internal: the sums over the descriptors that the part holds.
+fn packet_sums(descs: &[u8], packets: usize) -> Sums
+    requires { ⌜ (packets ≤ 128) × (descSize * packets ≤ length (now descs)) ⌝ }
+    ensures { λ r. ⌜ r ≡ sumsOf (packetsAt packets 0 (now (descs .entry))) ⌝ }
+{
+    let mut requested: u64 = 0;
+    let mut short: u64 = 0;
+    let mut k = 0;
+    while k < packets {
+        let d = IsoPacketDesc::load(descs, IsoPacketDesc::SIZE * k);
+        let length = d.length as u64;
+        requested += length;
+        short += lacking(length, d.actual_length as u64);
+        k += 1;
+    }
+    Sums { requested, short }
+}
+
+// Internal: slot i's completion. The sums are worked out on the part that holds its descriptors.
+pub fn complete(setup: Setup, block: &[u8], i: usize, was_discarded: bool) -> Completion
+    requires { ⌜ (accepted setup ≡ true) × (i < setup .slots) × (length (now block) ≡ totalOf setup) ⌝ }
+    ensures { λ r. ⌜ r ≡ completionOf setup i «was_discarded» (now (block .entry)) ⌝ }
+{
+    let at = setup.places(i);
+    let descs = at.descs;
+    let end = descs + IsoPacketDesc::SIZE * at.packets;
+    let sums = packet_sums(&block[descs..end], at.packets);
+    Completion {
+        status: get_i32(block, at.header + Urb::STATUS),
+        actual_bytes: get_non_negative(block, at.header + Urb::ACTUAL_LENGTH),
+        requested_bytes: sums.requested,
+        short_bytes: sums.short,
+        packet_errors: get_non_negative(block, at.header + Urb::ERROR_COUNT),
+        was_discarded,
+    }
+}
+
+// Internal: the slot whose header stands at an offset, by the offset and by the cookie.
+fn slot_at(setup: Setup, block: &[u8], offset: usize) -> Found
+    requires { ⌜ (accepted setup ≡ true) × (length (now block) ≡ totalOf setup) ⌝ }
+    ensures { λ r. ⌜ r ≡ slotAt setup offset (now (block .entry)) ⌝ }
+{
+    let layout = setup.layout_of();
+    let stride = layout.slot_stride;
+    if setup.slots * stride <= offset {
+        return Found::Nothing;
+    }
+    if offset % stride != 0 {
+        return Found::Nothing;
+    }
+    let i = offset / stride;
+    let cookie = get_u64(block, i * stride + Urb::USERCONTEXT);
+    if cookie != i as u64 {
+        return Found::Nothing;
+    }
+    Found::Slot(i)
+}
+
+// Internal: the slot that an address from the kernel names.
+pub fn slot_of_urb(setup: Setup, block: &[u8], address: usize) -> Found
+    requires { ⌜ (accepted setup ≡ true) × (length (now block) ≡ totalOf setup) ⌝ }
+    ensures { λ r. ⌜ r ≡ slotOfUrb setup address (now (block .entry)) ⌝ }
+{
+    let base = masked(setup.tagged, setup.base);
+    let at = masked(setup.tagged, address);
+    if at < base {
+        return Found::Nothing;
+    }
+    slot_at(setup, block, at - base)
+}
