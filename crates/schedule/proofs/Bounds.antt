@@ -1,6 +1,6 @@
 -- Products of 64-bit numbers, judged by a quotient.
 -- Assumes nothing.
-use mathlib.Core.Path.{_≡_, sym}
+use mathlib.Core.Path.{_≡_}
 use Prim.Native.Nat.{ℕ, _-_, _*_, _/_, _^_, _≤_, _<_}
 use native.Mathlib.Nat.{le-div-iff-mul-le, div-lt-iff-lt-mul, lt-of-lt-of-le, le-mul-of-pos-right}
 use native.Mathlib.Omega.{arith}

@@ -1,7 +1,7 @@
 -- Bus speed: the kernel's numbers, the probe of a device, the service interval of each speed and the cap on how many
 -- of them lie between two packets.
 use Prim.Native.Nat.{ℕ}
-use mathlib.Core.Bool.{Bool, true, false, cond}
+use mathlib.Core.Bool.{Bool, cond}
 use lib.IntN.{ℤ, pos, negsuc}
 use lib.Dec.{eqb}
 use Rattle.schedule.specs.declared.speed.Speed.{Speed}

@@ -1,9 +1,8 @@
 -- What a sound record, and one that breaks refusal 8's list, make of the first tests of a call.
 -- Assumes nothing.
-use mathlib.Core.Path.{_≡_, refl, sym, ap, _∙_}
-use mathlib.Core.Bool.{Bool, true, false, _&&_}
+use mathlib.Core.Path.{_≡_}
+use mathlib.Core.Bool.{true, false}
 use Prim.Native.Nat.{ℕ}
-use lib.Dec.{eqb}
 use borrow.Author.Tests.{eq-eqb, ne-eqb}
 use Rattle.error.specs.declared.Error.{Error}
 use Rattle.layout.specs.Opening.{accepted, totalOf}

@@ -1,6 +1,4 @@
 -- A record with one of its parts changed. Only this file lists a record's fields.
-use Prim.Native.Nat.{ℕ}
-use mathlib.Core.Bool.{Bool}
 use Rattle.ring.specs.declared.Hand.{Hand}
 use Rattle.ring.specs.declared.Ring.{Ring}
 use Rattle.stream.specs.declared.Flags.{Flags}

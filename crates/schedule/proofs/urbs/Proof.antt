@@ -1,7 +1,7 @@
 -- `urbs` meets its contract: each arm knows which depth was asked, and the callees give its case of `urbsOf`.
 -- Assumes nothing.
-use mathlib.Core.Path.{_≡_, sym, ap, _∙_}
-use Prim.Native.Nat.{ℕ, max}
+use mathlib.Core.Path.{ap, _∙_}
+use Prim.Native.Nat.{max}
 use borrow.Author.Needs.{needs}
 use Rattle.schedule.proofs.urbs.Statement.{statement}
 use Rattle.schedule.proofs.urbs.Tie as tie

@@ -1,7 +1,6 @@
 -- `product_of` meets its contract: with a zero the product is zero; else a quotient that is too small shows that a product of two,
 -- and so the whole one, is above 2^64 - 1. Assumes nothing.
-use mathlib.Core.Path.{_≡_, refl}
-use Prim.Native.Nat.{ℕ, _*_, _<_}
+use Prim.Native.Nat.{_*_, _<_}
 use native.Mathlib.Nat.{zero-mul, mul-zero}
 use native.Mathlib.Omega.{arith}
 use Rattle.schedule.proofs.Bounds.{within, above, still-above, valued, refused}

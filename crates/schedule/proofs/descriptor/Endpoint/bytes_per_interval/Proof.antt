@@ -1,7 +1,6 @@
 -- `Endpoint::bytes_per_interval` meets its contract: a remainder by 2048 times at most 4 fits, and bits high..low are a quotient's
 -- remainder. Assumes nothing.
-use mathlib.Core.Path.{_≡_, ap}
-use Prim.Native.Nat.{ℕ, _+_, _*_, _/_, _%_, _≤_}
+use Prim.Native.Nat.{_+_, _*_, _/_, _%_, _≤_}
 use native.Mathlib.Nat.{mul-le-mul, div-one}
 use native.Mathlib.Omega.{arith}
 use borrow.Author.Needs.{needs}

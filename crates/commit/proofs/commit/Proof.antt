@@ -1,0 +1,47 @@
+-- `commit::commit` meets its contract: the first tests refuse, or leave the slot in hand to its own rule.
+-- Assumes nothing.
+use mathlib.Core.Path.{sym, _∙_}
+use borrow.Author.Needs.{needs}
+use denote.Ref.{now}
+use Rattle.ring.proofs.Wide.{Wide, table-long}
+use Rattle.ledger.specs.Commit.{commit, commitHeld}
+use Rattle.commit.proofs.Calls.{slot-held, slot-told, slot-refused}
+use Rattle.commit.proofs.commit.Statement.{statement}
+use Rattle.commit.proofs.commit.Tie as tie
+
+wide : (c : tie.Start) → Wide (c .args .s .ring)
+wide c = record { table = search (needs, table-long); places = search needs }
+
+commit-held-requires : tie.Need-commit-held-requires
+commit-held-requires c κs =
+    let i = c .before .before in
+    slot-held _ _ _ (sym (i .before .before .slot-in-hand .ensures) ∙ i .i .given .1)
+
+returns : tie.Need-returns
+unfolding commit
+returns c =
+    let done = c .before .before in
+    let i = done .before .before .before in
+    let d = i .before .before .before .before in
+    slot-told (λ st k l b. commitHeld st (d .args .bytes) k l b) (d .args .s) (now (d .args .block)) _
+    (sym (i .before .before .slot-in-hand .ensures) ∙ i .i .given .1)
+    _ _ (done .commit-held .ensures)
+
+returns-2 : tie.Need-returns-2
+unfolding commit
+returns-2 c =
+    let d = c .before .before .before .before .before in
+    slot-refused (λ st k l b. commitHeld st (d .args .bytes) k l b) (d .args .s) (now (d .args .block)) (wide d) _
+    (sym (c .before .before .before .slot-in-hand .ensures) ∙ c .before .e .given .1)
+
+pub commit-spec : {M : Type 1} → statement M
+commit-spec =
+    tie.close
+    (tie.spec
+    (λ c κs. search needs)
+    (λ c. search needs)
+    commit-held-requires
+    (λ c. search needs)
+    (λ c. search needs)
+    returns
+    returns-2)

@@ -1,0 +1,76 @@
+// The slot in hand: the tests that every commit starts with, and the two ways in which one ends.
+use error::Error;
+use ring::Hand;
+use ring::Ring;
+use stream::Answer;
+use stream::Gate;
+use stream::Reply;
+use stream::Stream;
+ghost use mathlib.Core.Bool.{true};
+ghost use mathlib.Core.Path.{_≡_};
+ghost use Rattle.stream.specs.Parts.{withState};
+ghost use Rattle.stream.specs.Sound.{sound};
+ghost use Rattle.ledger.specs.Ledger.{returned, withHand};
+ghost use Rattle.ledger.specs.Record.{view, stored};
+ghost use Rattle.commit.specs.Held.{slotInHand};
+
+// The slot to commit, or why there is none.
+pub enum InHand {
+    Slot(usize),
+    Refused(Error),
+}
+
+// Refusals 8, 6 and 9.
+pub fn slot_in_hand(s: Stream, block_len: usize) -> InHand
+    ensures { λ r. ⌜ r ≡ slotInHand s «block_len» ⌝ }
+{
+    match s.gate(block_len) {
+        Gate::Refused(e) => InHand::Refused(e),
+        Gate::Open => {
+            let hand = s.hand;
+            match hand {
+                Hand::Held(i) => InHand::Slot(i),
+                Hand::Idle => InHand::Refused(Error::WrongHand),
+                Hand::Sending(_) => InHand::Refused(Error::WrongHand),
+                Hand::Silent(_, _) => InHand::Refused(Error::WrongHand),
+            }
+        }
+    }
+}
+
+// The record with another ring and hand, and the answer.
+fn reply(s: Stream, ring: Ring, hand: Hand, answer: Answer) -> Reply
+    ensures { λ r. ⌜ (r .answer ≡ answer) × (r .stream ≡ withState s ring hand (s .flags) (s .stats)) ⌝ }
+{
+    let setup = s.setup;
+    let flags = s.flags;
+    let stats = s.stats;
+    Reply {
+        stream: Stream {
+            setup,
+            ring,
+            hand,
+            flags,
+            stats,
+        },
+        answer,
+    }
+}
+
+// Internal: a commit is refused; its slot goes to the queue's end, so that the hand is Idle.
+pub fn put_back(s: Stream, i: usize, e: Error) -> Reply
+    requires { ⌜ (sound s ≡ true) × (s .hand ≡ Hand.Held i) ⌝ }
+    ensures { λ r. ⌜ (r .answer ≡ Answer.Refused e) × (r .stream ≡ stored s (withHand Hand.Idle (returned i (view s)))) ⌝ }
+{
+    let ring = s.ring;
+    reply(s, ring.release(i), Hand::Idle, Answer::Refused(e))
+}
+
+// Internal: the lengths of slot i are written; the host is to submit it.
+pub fn send(s: Stream, i: usize) -> Reply
+    requires { ⌜ (sound s ≡ true) × (s .hand ≡ Hand.Held i) ⌝ }
+    ensures { λ r. ⌜ (r .answer ≡ Answer.Submit i) × (r .stream ≡ stored s (withHand (Hand.Sending i) (view s))) ⌝ }
+{
+    let ring = s.ring;
+    reply(s, ring, Hand::Sending(i), Answer::Submit(i))
+}

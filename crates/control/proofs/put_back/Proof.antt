@@ -1,0 +1,24 @@
+-- `control::put_back` meets its contract: there is room in the queue for the slot in hand, and its release is the ledger's return.
+-- Assumes nothing.
+use borrow.Author.Needs.{needs}
+use Rattle.ring.proofs.Wide.{Wide}
+use Rattle.control.proofs.Arrays.{length-mapped}
+use Rattle.control.proofs.Handed.{room-back, put-back}
+use Rattle.control.proofs.put_back.Statement.{statement}
+use Rattle.control.proofs.put_back.Tie as tie
+
+wide : (c : tie.Start) → Wide (c .args .s .ring)
+wide c = record { table = search (needs, length-mapped); places = search needs }
+
+release-requires : tie.Need-release-requires
+release-requires c κs =
+    let d = c .before .before in
+    room-back (d .args .s) (d .pre .0) (wide d) (d .args .i) (d .pre .1)
+
+returns : tie.Need-returns
+returns c =
+    let d = c .before .before .before .before in
+    put-back (d .args .s) (d .pre .0) (wide d) (d .args .i) (d .pre .1) _ (c .before .release .ensures) _ (c .with-state .ensures)
+
+pub put-back-spec : {M : Type 1} → statement M
+put-back-spec = tie.close (tie.spec release-requires (λ c κs. search needs) returns)

@@ -1,0 +1,26 @@
+-- stop's walk over the slots.
+use Prim.Native.Nat.{ℕ, zero, suc, _+_}
+use mathlib.Core.Bool.{Bool, true, false}
+use lib.ListN.{set, replicate}
+use Rattle.ring.specs.declared.Ring.{Ring}
+use Rattle.ring.specs.declared.SlotState.{SlotState}
+use Rattle.ring.specs.Moves.{discarded}
+use Rattle.ring.specs.Parts.{stateOf}
+use Rattle.control.specs.declared.scan.Scan.{Scan}
+
+unfoldable pub isInFlight : SlotState → Bool
+isInFlight SlotState.Free = false
+isInFlight SlotState.Filling = false
+isInFlight SlotState.InFlight = true
+isInFlight SlotState.Discarding = false
+
+-- Slot i looked at: if InFlight it becomes Discarding, and its number is the next in the list; else nothing differs.
+unfoldable pub lookedAt : Bool → ℕ → Scan → Scan
+lookedAt true i scan =
+    record { ring = discarded (scan .ring) i; slots = set (scan .slots) (scan .count) i; count = scan .count + 1 }
+lookedAt false i scan = scan
+
+-- The first n slots looked at, from slot 0 on.
+unfoldable pub scanned : ℕ → Ring → Scan
+scanned zero ring = record { ring = ring; slots = replicate 256 0; count = 0 }
+scanned (suc n) ring = let scan = scanned n ring in lookedAt (isInFlight (stateOf (scan .ring) n)) n scan

@@ -1,0 +1,15 @@
+pub mod Runs
+pub mod Entries
+pub mod Marks
+pub mod Hands
+pub mod Filtered
+pub mod Order
+pub mod Totals
+pub mod Effects
+pub mod Answers
+pub mod Gates
+pub mod Submits
+pub mod Notices
+pub mod Steps
+pub mod Lists
+pub mod Demand3

@@ -1,0 +1,4 @@
+pub mod Bits
+pub mod Addresses
+pub mod Returns
+pub mod Replies

@@ -1,0 +1,28 @@
+-- `reaped::by_errno` meets its contract: each return knows whether the errno is 11, and the record is the one that came.
+-- Assumes nothing.
+use borrow.Author.Needs.{needs}
+use borrow.Author.Tests.{eq-eqb, ne-eqb}
+use Rattle.ring.proofs.Wide.{Wide, table-long}
+use Rattle.ledger.specs.Reaped.{byErrno}
+use Rattle.reaped.proofs.Replies.{errno-told}
+use Rattle.reaped.proofs.by_errno.Statement.{statement}
+use Rattle.reaped.proofs.by_errno.Tie as tie
+
+wide : (c : tie.Start) → Wide (c .args .s .ring)
+wide c = record { table = search (needs, table-long); places = search needs }
+
+returns : tie.Need-returns
+unfolding byErrno
+returns c =
+    let d = c .before in
+    errno-told (d .args .s) (d .pre) (wide d) (d .args .errno) _ (rw (eq-eqb _ _ (c .if1 .taken)))
+
+returns-2 : tie.Need-returns-2
+unfolding byErrno
+returns-2 c =
+    let d = c .before .before in
+    errno-told (d .args .s) (d .pre) (wide d) (d .args .errno) _
+    (rw (ne-eqb _ _ (c .before .if1 .left), c .from-errno .ensures))
+
+pub by-errno-spec : {M : Type 1} → statement M
+by-errno-spec = tie.close (tie.spec returns (λ c κs. search needs) returns-2)

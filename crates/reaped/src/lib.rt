@@ -1,0 +1,151 @@
+// reaped: the kernel's reply to REAPURBNDELAY. A notice of a slot that is out returns the slot.
+mod counters;
+mod status;
+
+use counters::totals_after;
+use error::ErrnoContext;
+use error::Error;
+use notice::complete;
+use notice::slot_of_urb;
+use ring::Found;
+use ring::Hand;
+use ring::SlotState;
+use status::answer_for;
+use stream::Answer;
+use stream::Gate;
+use stream::IsoStats;
+use stream::Reaping;
+use stream::Reply;
+use stream::Stream;
+ghost use mathlib.Core.Path.{_≡_};
+ghost use mathlib.Core.Bool.{true};
+ghost use mathlib.Core.List.{[]};
+ghost use Prim.Native.Nat.{_<_};
+ghost use lib.ListN.{length};
+ghost use Rattle.layout.specs.Opening.{totalOf};
+ghost use Rattle.ring.specs.Parts.{stateOf};
+ghost use Rattle.ring.specs.Slots.{isOut};
+ghost use Rattle.stream.specs.Sound.{sound};
+ghost use Rattle.ledger.specs.Ledger.{withTotals, markOf, returned as returnedRule};
+ghost use Rattle.ledger.specs.Block.{completionOf};
+ghost use Rattle.ledger.specs.Reaped.{noticed as noticedRule, byAddress, byErrno, slotOfUrb, reaped as reapedRule};
+ghost use Rattle.ledger.specs.Record.{view, stored, call};
+ghost use Rattle.reaped.specs.Notice.{returnedWith, replyFor};
+
+// Internal: slot i, which was out, at the queue's end; and other counters.
+fn returned(s: Stream, i: usize, stats: IsoStats) -> Stream
+    requires { ⌜ (sound s ≡ true) × (s .hand ≡ Hand.Idle) × (i < s .setup .slots) × (isOut (stateOf (s .ring) i) ≡ true) ⌝ }
+    ensures { λ r. ⌜ r ≡ stored s (withTotals stats (returnedRule i (view s))) ⌝ }
+{
+    let setup = s.setup;
+    let ring = s.ring;
+    let hand = s.hand;
+    let flags = s.flags;
+    Stream {
+        setup,
+        ring: ring.complete(i),
+        hand,
+        flags,
+        stats,
+    }
+}
+
+// Internal: slot i, which was out, is reaped: its completion decides on counters and answer.
+fn reaped_slot(s: Stream, block: &[u8], i: usize, was_discarded: bool) -> Reply
+    requires { ⌜ (sound s ≡ true) × (s .hand ≡ Hand.Idle) × (i < s .setup .slots) × (isOut (stateOf (s .ring) i) ≡ true) × (length (now block) ≡ totalOf (s .setup)) ⌝ }
+    ensures { λ r. ⌜ r ≡ returnedWith (completionOf (s .setup) i «was_discarded» (now (block .entry))) s i ⌝ }
+{
+    let done = complete(s.setup, block, i, was_discarded);
+    let stats = totals_after(s.stats, done);
+    Reply {
+        stream: returned(s, i, stats),
+        answer: answer_for(done),
+    }
+}
+
+// Internal: a notice of slot i, by the slot's state. Filling can't be: the hand is Idle.
+fn noticed(s: Stream, block: &[u8], i: usize) -> Reply
+    requires { ⌜ (sound s ≡ true) × (s .hand ≡ Hand.Idle) × (i < s .setup .slots) × (length (now block) ≡ totalOf (s .setup)) ⌝ }
+    ensures { λ r. ⌜ r ≡ replyFor s (noticedRule (s .setup) (markOf (view s) i) i (view s) (now (block .entry))) ⌝ }
+{
+    let ring = s.ring;
+    let states = ring.states;
+    let cell = states[i];
+    let state = cell.state;
+    match state {
+        SlotState::Free => Reply {
+            stream: s,
+            answer: Answer::Refused(Error::StrayNotice),
+        },
+        SlotState::Filling => Reply {
+            stream: s,
+            answer: Answer::Refused(Error::StrayNotice),
+        },
+        SlotState::InFlight => reaped_slot(s, block, i, false),
+        SlotState::Discarding => reaped_slot(s, block, i, true),
+    }
+}
+
+// Internal: a notice, by the address of its URB. The kernel reports each URB of the file descriptor, so it may be no slot's.
+fn by_address(s: Stream, block: &[u8], address: usize) -> Reply
+    requires { ⌜ (sound s ≡ true) × (s .hand ≡ Hand.Idle) × (length (now block) ≡ totalOf (s .setup)) ⌝ }
+    ensures { λ r. ⌜ r ≡ replyFor s (byAddress (s .setup) (slotOfUrb (s .setup) address (now (block .entry))) (view s) (now (block .entry))) ⌝ }
+{
+    match slot_of_urb(s.setup, block, address) {
+        Found::Nothing => Reply {
+            stream: s,
+            answer: Answer::Foreign,
+        },
+        Found::Slot(i) => noticed(s, block, i),
+    }
+}
+
+// Internal: an errno, for which the block is not looked at. EAGAIN, 11, says that no URB is done yet.
+fn by_errno(s: Stream, errno: u32) -> Reply
+    requires { ⌜ sound s ≡ true ⌝ }
+    ensures { λ r. ⌜ r ≡ replyFor s (byErrno errno (view s) []) ⌝ }
+{
+    if errno == 11 {
+        return Reply {
+            stream: s,
+            answer: Answer::Nothing,
+        };
+    }
+    Reply {
+        stream: s,
+        answer: Answer::Refused(Error::from_errno(errno, ErrnoContext::Other)),
+    }
+}
+
+// Takes the kernel's reply: an errno, or the address of a URB that is done. The block is only read.
+pub fn reaped(s: Stream, reply: Reaping, block: &[u8]) -> Reply
+    ensures { λ r. ⌜ (r .answer ≡ call (reapedRule reply) s (now (block .entry)) .answer) × (r .stream ≡ call (reapedRule reply) s (now (block .entry)) .stream) × (now (block .entry) ≡ call (reapedRule reply) s (now (block .entry)) .lent) ⌝ }
+{
+    match s.gate(block.len()) {
+        Gate::Refused(e) => Reply {
+            stream: s,
+            answer: Answer::Refused(e),
+        },
+        Gate::Open => {
+            let hand = s.hand;
+            match hand {
+                Hand::Idle => match reply {
+                    Reaping::Errno(errno) => by_errno(s, errno),
+                    Reaping::Address(address) => by_address(s, block, address),
+                },
+                Hand::Held(_) => Reply {
+                    stream: s,
+                    answer: Answer::Refused(Error::WrongHand),
+                },
+                Hand::Sending(_) => Reply {
+                    stream: s,
+                    answer: Answer::Refused(Error::WrongHand),
+                },
+                Hand::Silent(_, _) => Reply {
+                    stream: s,
+                    answer: Answer::Refused(Error::WrongHand),
+                },
+            }
+        }
+    }
+}

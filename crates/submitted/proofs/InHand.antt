@@ -1,0 +1,48 @@
+-- The slot in hand of a sound record: it is one of the n, Filling, and the only one in hand. So the queue and the out count have room for
+-- it. Assumes nothing.
+use mathlib.Core.Path.{_≡_, refl, sym, ap, _∙_}
+use mathlib.Core.Bool.{true, false}
+use Prim.Native.Nat.{ℕ, _<_}
+use native.Mathlib.Omega.{arith}
+use Rattle.ring.specs.declared.SlotState.{SlotState}
+use Rattle.ring.specs.Parts.{stateOf}
+use Rattle.ring.specs.Slots.{isFree, isOut, holds}
+use Rattle.ring.proofs.Hands.{held-below, held-only}
+use Rattle.ring.proofs.Pigeonhole.{room, out-room}
+use Rattle.ring.proofs.States.{filling-is}
+use Rattle.ring.proofs.Wide.{Wide}
+use Rattle.stream.specs.declared.Stream.{Stream}
+use Rattle.stream.specs.Sound.{sound}
+use Rattle.ledger.proofs.View.{facts}
+
+filling-not-free : isFree SlotState.Filling ≡ false
+unfolding isFree
+filling-not-free = refl
+
+filling-not-out : isOut SlotState.Filling ≡ false
+unfolding isOut
+filling-not-out = refl
+
+module _ (s : Stream) (ok : sound s ≡ true) (wide : Wide (s .ring)) (i : ℕ) (held : holds (s .hand) i ≡ true) where
+  pub slot-below : i < s .setup .slots
+  slot-below = held-below (s .setup .slots) (s .hand) i (facts s ok wide .within) held
+
+  pub alone : (j : ℕ) → (j ≡ i → ⊥) → holds (s .hand) j ≡ false
+  alone = held-only (s .hand) i held
+
+  filling : stateOf (s .ring) i ≡ SlotState.Filling
+  filling = filling-is (stateOf (s .ring) i) (facts s ok wide .held i slot-below ∙ held)
+
+  -- what release asks
+  pub queue-room : (i < 256) × (s .ring .«free_len» < 256)
+  queue-room =
+      let n = facts s ok wide .few in
+      let short = room (facts s ok wide) wide i slot-below (ap isFree filling ∙ filling-not-free) in
+      (omega (arith, n, slot-below), omega (arith, n, short))
+
+  -- what mark_in_flight asks
+  pub out-count-room : (i < 256) × (s .ring .«in_flight» < 256)
+  out-count-room =
+      let n = facts s ok wide .few in
+      let short = out-room (facts s ok wide) i slot-below (ap isOut filling ∙ filling-not-out) in
+      (omega (arith, n, slot-below), omega (arith, n, short))

@@ -1,0 +1,4 @@
+pub mod InHand
+pub mod Accepting
+pub mod Failing
+pub mod Replies

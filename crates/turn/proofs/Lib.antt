@@ -1,0 +1,4 @@
+pub mod Giving
+pub mod Taking
+pub mod Underruns
+pub mod Hands

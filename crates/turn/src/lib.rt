@@ -1,0 +1,120 @@
+// The call turn: the middle of the Rust's next_slot.
+mod front;
+
+use error::Error;
+pub use front::silence_front;
+pub use front::take_front;
+pub use front::with_hand;
+use layout::Underrun;
+use ring::Hand;
+use stream::Answer;
+use stream::Flags;
+use stream::Gate;
+use stream::Reply;
+use stream::Stream;
+ghost use mathlib.Core.Bool.{true};
+ghost use mathlib.Core.Path.{_≡_};
+ghost use lib.ListN.{length};
+ghost use Rattle.layout.specs.Opening.{totalOf};
+ghost use Rattle.stream.specs.Sound.{sound};
+ghost use Rattle.ledger.specs.Record.{view, stored, call};
+ghost use Rattle.ledger.specs.Turn.{drained as drainedLedger, underrun, onUnderrun, turnIdle, turn as turnRule};
+ghost use Rattle.turn.specs.Gives.{Gives};
+
+// Internal: whether the stream has run dry: started, armed and none out.
+fn drained(s: Stream) -> bool
+    requires { ⌜ sound s ≡ true ⌝ }
+    ensures { λ r. ⌜ r ≡ drainedLedger (view s) ⌝ }
+{
+    let flags = s.flags;
+    let ring = s.ring;
+    flags.started && flags.armed && ring.in_flight == 0
+}
+
+// Internal: counts an underrun, once for each time that the stream runs dry: only an acceptance arms it again.
+fn count_underrun(s: Stream) -> Stream
+    requires { ⌜ sound s ≡ true ⌝ }
+    ensures { λ r. ⌜ r ≡ stored s (underrun (view s)) ⌝ }
+{
+    let setup = s.setup;
+    let ring = s.ring;
+    let hand = s.hand;
+    let was = s.flags;
+    let flags = Flags {
+        started: was.started,
+        armed: false,
+    };
+    let mut stats = s.stats;
+    stats.underruns = std::num::wrapping_add_u64(stats.underruns, 1);
+    Stream {
+        setup,
+        ring,
+        hand,
+        flags,
+        stats,
+    }
+}
+
+// Internal: counts an underrun; then the policy decides.
+fn on_underrun(s: Stream, block: &mut [u8]) -> Reply
+    requires { ⌜ (sound s ≡ true) × (s .hand ≡ Hand.Idle) × (length (now block) ≡ totalOf (s .setup)) ⌝ }
+    ensures { λ r. ⌜ Gives s (onUnderrun (s .setup .underrun) (s .setup) (underrun (view s)) (now (block .entry))) r (now (block .exit)) ⌝ }
+{
+    let counted = count_underrun(s);
+    let setup = s.setup;
+    let policy = setup.underrun;
+    match policy {
+        Underrun::Continue => take_front(counted),
+        Underrun::FillSilence => silence_front(counted, block, 1),
+        Underrun::Error => {
+            let stats = counted.stats;
+            Reply {
+                stream: counted,
+                answer: Answer::Refused(Error::Underrun(stats.underruns)),
+            }
+        }
+    }
+}
+
+// Internal: turn with the hand Idle.
+fn turn_idle(s: Stream, block: &mut [u8]) -> Reply
+    requires { ⌜ (sound s ≡ true) × (s .hand ≡ Hand.Idle) × (length (now block) ≡ totalOf (s .setup)) ⌝ }
+    ensures { λ r. ⌜ Gives s (turnIdle (s .setup) (view s) (now (block .entry))) r (now (block .exit)) ⌝ }
+{
+    if drained(s) {
+        on_underrun(s, block)
+    } else {
+        take_front(s)
+    }
+}
+
+// Internal: refusal 9.
+pub fn wrong_hand(s: Stream) -> Reply
+    ensures { λ r. ⌜ r ≡ record { stream = s; answer = Answer.Refused Error.WrongHand } ⌝ }
+{
+    Reply {
+        stream: s,
+        answer: Answer::Refused(Error::WrongHand),
+    }
+}
+
+// The next slot for the host, or a silent one to submit where the stream has run dry and the policy says so.
+pub fn turn(s: Stream, block: &mut [u8]) -> Reply
+    ensures { λ r. ⌜ (r .answer ≡ call turnRule s (now (block .entry)) .answer) × (r .stream ≡ call turnRule s (now (block .entry)) .stream) × (now (block .exit) ≡ call turnRule s (now (block .entry)) .lent) ⌝ }
+{
+    match s.gate(block.len()) {
+        Gate::Refused(e) => Reply {
+            stream: s,
+            answer: Answer::Refused(e),
+        },
+        Gate::Open => {
+            let hand = s.hand;
+            match hand {
+                Hand::Idle => turn_idle(s, block),
+                Hand::Held(_) => wrong_hand(s),
+                Hand::Sending(_) => wrong_hand(s),
+                Hand::Silent(_, _) => wrong_hand(s),
+            }
+        }
+    }
+}
