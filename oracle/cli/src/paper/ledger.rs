@@ -1,0 +1,130 @@
+//! Opening, and what the ledger holds.
+
+use std::collections::VecDeque;
+
+use form::{Hand, Line, Opening};
+
+use super::block::{layout, Block, Layout};
+use super::wrong::Wrong;
+
+#[derive(Clone, Copy, PartialEq)]
+pub enum Mark {
+    Home,
+    Out,
+    Discarded,
+}
+
+/// Places in the totals, in IsoStats order.
+pub mod total {
+    pub const SUBMITTED: usize = 0;
+    pub const COMPLETED: usize = 1;
+    pub const BYTES_SUBMITTED: usize = 2;
+    pub const TRANSFERRED: usize = 3;
+    pub const SHORT: usize = 4;
+    pub const PACKET_ERRORS: usize = 5;
+    pub const URB_ERRORS: usize = 6;
+    pub const UNDERRUNS: usize = 7;
+}
+
+pub struct Ledger {
+    pub opening: Opening,
+    pub layout: Layout,
+    pub hand: Hand,
+    pub queue: VecDeque<u64>,
+    pub marks: Vec<Mark>,
+    pub started: bool,
+    pub armed: bool,
+    pub totals: [u64; 8],
+    pub wrong: Wrong,
+}
+
+/// Only the low 56 bits compare where addresses carry a tag.
+pub fn masked(address: u64, tagged: u64) -> u64 {
+    if tagged == 1 {
+        address & ((1 << 56) - 1)
+    } else {
+        address
+    }
+}
+
+impl Ledger {
+    /// Refused in order, block untouched: 1, 2, 3; 5; 6; 7.
+    pub fn open(o: &Opening, bytes: &mut [u8], wrong: Wrong) -> Result<Ledger, u64> {
+        let laid = layout(o.n, o.p, o.b);
+        if let Err(number @ 1..=3) = laid {
+            return Err(number);
+        }
+        if o.n > 256 || o.b > 49_152 {
+            return Err(5);
+        }
+        let layout = laid?;
+        if bytes.len() as u64 != layout.total {
+            return Err(6);
+        }
+        let room: u128 = if o.tagged == 1 { 1 << 56 } else { 1 << 64 };
+        let end = u128::from(masked(o.base, o.tagged)) + u128::from(layout.total);
+        if !o.base.is_multiple_of(64) || end > room {
+            return Err(7);
+        }
+        Block { bytes, layout, p: o.p }.open(o);
+        Ok(Ledger {
+            opening: *o,
+            layout,
+            hand: Hand::Idle,
+            queue: (0..o.n).collect(),
+            marks: vec![Mark::Home; o.n as usize],
+            started: false,
+            armed: false,
+            totals: [0; 8],
+            wrong,
+        })
+    }
+
+    /// How many slots are out.
+    pub fn out(&self) -> u64 {
+        let counts = |m: &&Mark| match m {
+            Mark::Home => false,
+            Mark::Out => true,
+            Mark::Discarded => self.wrong != Wrong::DiscardLowersOut,
+        };
+        self.marks.iter().filter(counts).count() as u64
+    }
+
+    /// "Return" puts a slot at the queue's end as Free.
+    pub fn give(&mut self, i: u64) {
+        self.marks[i as usize] = Mark::Home;
+        if self.wrong == Wrong::ReturnedToTheFront {
+            self.queue.push_front(i);
+        } else {
+            self.queue.push_back(i);
+        }
+    }
+
+    /// Counters add modulo 2^64.
+    pub fn add(&mut self, total: usize, more: u64) {
+        self.totals[total] = self.totals[total].wrapping_add(more);
+    }
+
+    fn state(&self, i: u64) -> u8 {
+        match (self.hand, self.marks[i as usize]) {
+            (Hand::Held(j) | Hand::Sending(j) | Hand::Silent(j, _), _) if i == j => 1,
+            (_, Mark::Home) => 0,
+            (_, Mark::Out) => 2,
+            (_, Mark::Discarded) => 3,
+        }
+    }
+
+    pub fn line(&self, number: u64, answer: form::Answer, checksum: u64) -> Line {
+        Line {
+            number,
+            answer,
+            hand: self.hand,
+            out: self.out(),
+            flags: Some([self.started, self.armed]),
+            totals: Some(self.totals),
+            states: (0..self.opening.n).map(|i| self.state(i)).collect(),
+            queue: self.queue.iter().copied().collect(),
+            checksum,
+        }
+    }
+}

@@ -1,0 +1,11 @@
+//! A player of recorded runs written from the paper alone (docs/01-scope.md), with nothing of the Rust in it.
+
+mod block;
+mod calls;
+mod functions;
+mod ledger;
+mod player;
+mod wrong;
+
+pub use player::play;
+pub use wrong::Wrong;

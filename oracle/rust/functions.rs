@@ -1,0 +1,193 @@
+//! The functions beside the calls: the published Rust's results.
+
+use form::{function, push_number, Answer, FUNCTIONS, FUNCTION_NUMBERS};
+
+use crate::descriptor::Endpoint;
+use crate::device::UsbFsDevice;
+use crate::error::ErrnoContext;
+use crate::iso::{plan, IsoOut};
+use crate::numbers::refusal;
+use crate::ring::RingLayout;
+use crate::schedule::{packet_interval_us, Depth, Schedule};
+use crate::{Error, Result, Speed};
+
+type Question = [u64; FUNCTION_NUMBERS];
+
+/// The line of the published Rust. None where it wraps around 2^64 and the paper says that it differs.
+pub fn expected(q: &Question, to: &mut Vec<u8>) -> Option<()> {
+    let (name, count) = FUNCTIONS[q[0] as usize];
+    let start = to.len();
+    to.extend_from_slice(name.as_bytes());
+    for &argument in &q[1..=count] {
+        to.push(b' ');
+        push_number(to, argument);
+    }
+    to.extend_from_slice(b" =");
+    let result = result(q);
+    if result.is_none() {
+        to.truncate(start);
+    }
+    match result? {
+        Ok(values) => {
+            for value in values {
+                to.push(b' ');
+                match value {
+                    Some(v) => push_number(to, v),
+                    None => to.push(b'?'),
+                }
+            }
+        }
+        Err(e) => {
+            to.push(b' ');
+            // The builder's refusal of an endpoint has a number of its own.
+            let (number, value) = match (q[0], refusal(&e)) {
+                (function::BUILD, (26, None)) => (30, None),
+                (_, known) => known,
+            };
+            Answer::Refused(number, value).push(to);
+        }
+    }
+    to.push(b'\n');
+    Some(())
+}
+
+type Values = Vec<Option<u64>>;
+
+fn result(q: &Question) -> Option<Result<Values>> {
+    let [_, a, b, c, d, ..] = *q;
+    Some(match q[0] {
+        function::LAYOUT => return layout(a, b, c),
+        function::FROM_RAW => Ok(vec![Some(speed_number(Speed::from_raw(a as u32 as i32)))]),
+        function::FROM_DEVICE_PROBE => Ok(vec![Some(speed_number(Speed::from_device_probe(a as u8, b == 1)))]),
+        function::PACKET_INTERVAL_US => {
+            packet_interval_us(Speed::from_raw(a as i32), b as u8).map(|us| vec![Some(u64::from(us))])
+        }
+        function::BYTES_PER_INTERVAL => Ok(vec![Some(endpoint(1, a, 1).bytes_per_interval() as u64)]),
+        function::DERIVE => {
+            let (speed, depth, packets) = (Speed::from_raw(a as i32), depth(d, q[5]), packets(q[6], q[7]));
+            Schedule::derive(speed, b as u8, c as usize, depth, packets).map(|s| schedule(&s))
+        }
+        function::PLAN => {
+            let (speed, depth, packets) = (Speed::from_raw(a as i32), depth(q[5], q[6]), packets(q[7], q[8]));
+            plan(speed, &endpoint(b, c, d), depth, packets).map(|s| schedule(&s))
+        }
+        function::FROM_ERRNO => {
+            let bytes = c as usize;
+            let context = if b == 0 { ErrnoContext::Submit { bytes } } else { ErrnoContext::Other };
+            Err(Error::from_errno(a as i32, context))
+        }
+        _ => return build(q),
+    })
+}
+
+fn layout(n: u64, p: u64, b: u64) -> Option<Result<Values>> {
+    let laid = RingLayout::new(n as usize, p as usize, b as usize);
+    let raised = |v: u128, to: u128| v.div_ceil(to) * to;
+    let wide = |v: u64| u128::from(v);
+    if let Ok(l) = &laid {
+        // Beyond 2^64 - 1 the Rust's align_up wraps: a difference that the paper names.
+        let stride = raised(56 + 12 * wide(p), 8);
+        let payload = raised(wide(p) * wide(b), 64).checked_mul(wide(n));
+        let total = payload.and_then(|v| v.checked_add(raised(wide(n) * stride, 64)));
+        if total != Some(wide(l.total_bytes as u64)) {
+            return None;
+        }
+    }
+    Some(laid.map(|l| {
+        let values = [l.slot_stride, l.data_base, l.data_stride, l.total_bytes, l.align, l.slot_capacity()];
+        values.map(|v| Some(v as u64)).to_vec()
+    }))
+}
+
+/// What the builder makes of its values: slots, packets, bytes. None for a ring that is too large to be made here, or
+/// larger than the paper's added limits.
+fn build(q: &Question) -> Option<Result<Values>> {
+    let [_, speed, interval_given, interval, size_given, size, bytes_given, bytes, endpoint, ..] = *q;
+    let (speed, depth, packets) = (Speed::from_raw(speed as i32), depth(q[9], q[10]), packets(q[11], q[12]));
+    let packet_bytes = if bytes_given == 1 { bytes } else { size };
+    if let Ok(s) = Schedule::derive(speed, interval as u8, packet_bytes as usize, depth, packets) {
+        let layout = RingLayout::new(s.urbs, s.packets_per_urb, s.packet_bytes);
+        if s.urbs > 256 || packet_bytes > 49_152 || layout.is_ok_and(|l| l.total_bytes > LARGEST_BUILD) {
+            return None;
+        }
+    }
+    script::install(builders_machine());
+    // SAFETY: the descriptor is never used.
+    let device = unsafe { UsbFsDevice::from_borrowed_fd(0) };
+    let mut builder = IsoOut::builder(&device, endpoint as u8).speed(speed).depth(depth);
+    if interval_given == 1 {
+        builder = builder.interval(interval as u8);
+    }
+    if size_given == 1 {
+        builder = builder.max_packet_size(size as usize);
+    }
+    if bytes_given == 1 {
+        builder = builder.packet_bytes(bytes as usize);
+    }
+    if let Some(packets) = packets {
+        builder = builder.packets_per_urb(packets);
+    }
+    Some(builder.build().map(|out| {
+        let s = out.schedule();
+        [s.urbs, s.packets_per_urb, s.packet_bytes].map(|v| Some(v as u64)).to_vec()
+    }))
+}
+
+const LARGEST_BUILD: usize = 1 << 17;
+
+/// Building a ring only takes its memory.
+fn builders_machine() -> script::Machine {
+    script::Machine {
+        ioctl: |_, _| Err(libc::ENODEV),
+        poll: || Err(libc::ENODEV),
+        clock: || 0,
+        block: |_| script::arena() as *mut u8,
+    }
+}
+
+/// Interval, packets, URBs, bytes; then the two durations and the memory, not compared where the Rust wraps.
+fn schedule(s: &Schedule) -> Values {
+    let (us, packets, urbs) = (u64::from(s.packet_interval_us), s.packets_per_urb as u64, s.urbs as u64);
+    let bytes = s.packet_bytes as u64;
+    let unless_wrapped = |factors: [u64; 3], shown: u64| {
+        let product = factors.iter().try_fold(1u64, |v, &f| v.checked_mul(f));
+        product.map(|_| shown)
+    };
+    vec![
+        Some(us),
+        Some(packets),
+        Some(urbs),
+        Some(bytes),
+        unless_wrapped([us, packets, 1], s.urb_duration_us()),
+        unless_wrapped([us, packets, urbs], s.in_flight_us()),
+        unless_wrapped([urbs, packets, bytes], s.memory_bytes() as u64),
+    ]
+}
+
+fn endpoint(attributes: u64, field: u64, interval: u64) -> Endpoint {
+    Endpoint { address: 1, attributes: attributes as u8, max_packet_size: field as u16, interval: interval as u8 }
+}
+
+fn depth(kind: u64, value: u64) -> Depth {
+    match kind {
+        0 => Depth::Urbs(value as usize),
+        1 => Depth::Micros(value as u32),
+        _ => Depth::Millis(value as u32),
+    }
+}
+
+fn packets(given: u64, value: u64) -> Option<usize> {
+    (given == 1).then_some(value as usize)
+}
+
+fn speed_number(speed: Speed) -> u64 {
+    match speed {
+        Speed::Unknown => 0,
+        Speed::Low => 1,
+        Speed::Full => 2,
+        Speed::High => 3,
+        Speed::Wireless => 4,
+        Speed::Super => 5,
+        Speed::SuperPlus => 6,
+    }
+}
