@@ -1,4 +1,4 @@
-//! A player of recorded runs written from the paper alone (docs/01-scope.md), with nothing of the Rust in it.
+//! A player of recorded runs written from the requirements alone, with nothing of the Rust in it.
 
 mod block;
 mod calls;
