@@ -57,7 +57,7 @@ fn reply(s: Stream, ring: Ring, hand: Hand, answer: Answer) -> Reply
     }
 }
 
-// Internal: a commit is refused; its slot goes to the queue's end, so that the hand is Idle.
+// Internal: ends a refused commit. The slot goes to the queue's end, as the Rust's Slot does when it is dropped.
 pub fn put_back(s: Stream, i: usize, e: Error) -> Reply
     requires { ⌜ (sound s ≡ true) × (s .hand ≡ Hand.Held i) ⌝ }
     ensures { λ r. ⌜ (r .answer ≡ Answer.Refused e) × (r .stream ≡ stored s (withHand Hand.Idle (returned i (view s)))) ⌝ }
@@ -66,7 +66,7 @@ pub fn put_back(s: Stream, i: usize, e: Error) -> Reply
     reply(s, ring.release(i), Hand::Idle, Answer::Refused(e))
 }
 
-// Internal: the lengths of slot i are written; the host is to submit it.
+// Internal: ends a commit whose lengths are written. The host is to submit the slot.
 pub fn send(s: Stream, i: usize) -> Reply
     requires { ⌜ (sound s ≡ true) × (s .hand ≡ Hand.Held i) ⌝ }
     ensures { λ r. ⌜ (r .answer ≡ Answer.Submit i) × (r .stream ≡ stored s (withHand (Hand.Sending i) (view s))) ⌝ }

@@ -76,7 +76,7 @@ pub fn commit(s: Stream, bytes: usize, block: &mut [u8]) -> Reply
     }
 }
 
-// Commits the whole capacity of the slot in hand.
+// Commits the whole capacity of the slot in hand. It is worked out behind the tests: in a record that breaks 8 it might not fit.
 pub fn commit_full(s: Stream, block: &mut [u8]) -> Reply
     ensures { λ r. ⌜ (r .answer ≡ call commitFull s (now (block .entry)) .answer) × (r .stream ≡ call commitFull s (now (block .entry)) .stream) × (now (block .exit) ≡ call commitFull s (now (block .entry)) .lent) ⌝ }
 {

@@ -1,29 +1,23 @@
--- The calls that move no slot, start and finish: the ring that shows a ledger with the record's own hand, queue and marks is the record's
--- ring, so only the flags can differ. Assumes nothing.
-use mathlib.Core.Path.{_≡_, refl, sym, ap, ap₂, _∙_}
+-- The calls that move no slot, start and finish: only the flags can differ. Assumes nothing.
+use mathlib.Core.Path.{_≡_, refl, sym, ap, _∙_}
 use mathlib.Core.Bool.{Bool, true, false, cond}
-use mathlib.Core.List.{List, []}
-use Prim.Native.Nat.{ℕ}
-use native.Mathlib.Omega.{arith}
+use mathlib.Core.List.{[]}
 use lib.Dec.{eqb}
-use lib.ListN.{getD}
 use Rattle.error.specs.declared.Error.{Error}
 use Rattle.ring.specs.declared.Hand.{Hand}
 use Rattle.ring.specs.declared.Ring.{Ring}
-use Rattle.ring.specs.Parts.{queueOf, withQueue, withOut}
-use Rattle.ring.specs.Slots.{holds}
-use Rattle.ring.proofs.Queue.{queue-kept}
 use Rattle.ring.proofs.Wide.{Wide}
 use Rattle.stream.specs.declared.Answer.{Answer}
 use Rattle.stream.specs.declared.Stream.{Stream}
 use Rattle.stream.specs.Parts.{withState}
 use Rattle.stream.specs.Sound.{sound}
-use Rattle.ledger.specs.Ledger.{Ledger, Mark, home, withFlags, markOf, outs, slotState, stateIn}
+use Rattle.ledger.specs.Ledger.{withFlags}
 use Rattle.ledger.specs.Step.{Next, onIdle}
 use Rattle.ledger.specs.Control.{startedLedger, start, finish}
-use Rattle.ledger.specs.Record.{view, ringFor, stored, call}
+use Rattle.ledger.specs.Record.{view, stored, call}
 use Rattle.ledger.proofs.Calls.{Told, call-moved, call-kept}
-use Rattle.ledger.proofs.View.{facts, view-state, view-outs, none-changed, stored-view}
+use Rattle.ledger.proofs.Rings.{ring-kept}
+use Rattle.ledger.proofs.View.{view-outs, stored-view}
 
 -- past the gate the hand is Idle, and the rule goes on
 pub on-idle : (h : Hand) (next wrong : Next) → h ≡ Hand.Idle → onIdle h next wrong ≡ next
@@ -31,16 +25,6 @@ unfolding onIdle
 on-idle h next wrong e = rw e
 
 module _ (s : Stream) (ok : sound s ≡ true) (wide : Wide (s .ring)) where
-  pub ring-kept : (l : Ledger) → l .hand ≡ s .hand → l .queue ≡ queueOf (s .ring) → l .marks ≡ view s .marks → ringFor (s .setup .slots) (s .ring) l ≡ s .ring
-  unfolding withOut stateIn markOf view
-  ring-kept l lh lq lm =
-      none-changed s ok wide l
-      (λ j h.
-      ap₂ slotState (ap (λ (x : Hand). holds x j) lh) (ap (λ (m : List Mark). getD m j home) lm) ∙ view-state s ok wide j h) ∙
-      ap₂ (λ (q : List ℕ) (k : ℕ). withOut (withQueue (s .ring) q) k) lq (ap outs lm ∙ view-outs s ok wide) ∙
-      ap (λ (r : Ring). withOut r (s .ring .«in_flight»))
-      (queue-kept (s .ring) (omega (arith, facts s ok wide .short, wide .places)))
-
   module _ (idle : s .hand ≡ Hand.Idle) where
     -- finish's answer goes by the out count
     pub finished : (none : Bool) → eqb (s .ring .«in_flight») 0 ≡ none → Told (call finish s []) s (cond none Answer.Yes (Answer.Refused Error.Disconnected)) []
@@ -54,7 +38,7 @@ module _ (s : Stream) (ok : sound s ≡ true) (wide : Wide (s .ring)) where
     unfolding stored withFlags view
     flags-stored started armed =
         ap (λ (r : Ring). withState s r (s .hand) (record { started = started; armed = armed }) (s .stats))
-        (sym (ring-kept (withFlags started armed (view s)) refl refl refl))
+        (sym (ring-kept s ok wide (withFlags started armed (view s)) (λ j. refl) refl refl))
 
     -- start's rule, by whether the stream was started: armed stays, or goes off
     after-start : (was : Bool) → s .flags .started ≡ was → withState s (s .ring) (s .hand) (record { started = true; armed = cond was (s .flags .armed) false }) (s .stats) ≡ stored s (startedLedger was (view s))

@@ -187,7 +187,7 @@ packets-valid n lengths s l block v =
     (refused-valid n Error.WrongHand l block v))
 
 -- submitted
-accepted-valid : (n : ℕ) (s : Setup) (i : ℕ) (l : Ledger) (block : List ℕ) → Valid n (withHand Hand.Idle (marked i out l)) → Valid n (acceptedLedger s i l block)
+pub accepted-valid : (n : ℕ) (s : Setup) (i : ℕ) (l : Ledger) (block : List ℕ) → Valid n (withHand Hand.Idle (marked i out l)) → Valid n (acceptedLedger s i l block)
 unfolding acceptedLedger withHand withTotals withFlags
 accepted-valid n s i l block v = totalled n _ _ (flagged n (l .started) true _ v)
 

@@ -4,4 +4,5 @@ pub mod Valid
 pub mod Moves
 pub mod Kept
 pub mod Rings
+pub mod InHand
 pub mod Calls

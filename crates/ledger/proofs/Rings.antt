@@ -22,7 +22,7 @@ use Rattle.stream.specs.declared.Stream.{Stream}
 use Rattle.stream.specs.Sound.{sound}
 use Rattle.ledger.specs.Ledger.{Ledger, Mark, home, out, discarded, markOf, outs, slotState, stateIn}
 use Rattle.ledger.specs.Record.{view, ringFor}
-use Rattle.ledger.proofs.View.{facts, view-marks-long, view-state, view-outs, one-changed}
+use Rattle.ledger.proofs.View.{facts, view-marks-long, view-state, view-outs, one-changed, none-changed}
 use Rattle.ledger.proofs.Valid.{sound-valid}
 
 -- what a mark adds to the out count
@@ -149,3 +149,13 @@ module _ (s : Stream) (ok : sound s ≡ true) (wide : Wide (s .ring)) where
   ring-completed l i below was idle lq lm gone =
       ring-marked l i below home idle lm (λ j d. unheld (s .hand) was j) ∙
       settle-less (s .ring) i _ _ lq (omega (arith, outs-after l i home below lm))
+
+  -- another hand with the same slot, the same queue and the same marks: the record's own ring
+  pub ring-kept : (l : Ledger) → ((j : ℕ) → holds (l .hand) j ≡ holds (s .hand) j) → l .queue ≡ queueOf (s .ring) → l .marks ≡ view s .marks → ringFor (s .setup .slots) (s .ring) l ≡ s .ring
+  unfolding withOut stateIn markOf view
+  ring-kept l lh lq lm =
+      none-changed s ok wide l
+      (λ j h. ap₂ slotState (lh j) (ap (λ (m : List Mark). getD m j home) lm) ∙ view-state s ok wide j h) ∙
+      ap₂ (λ (q : List ℕ) (k : ℕ). withOut (withQueue (s .ring) q) k) lq (ap outs lm ∙ view-outs s ok wide) ∙
+      ap (λ (r : Ring). withOut r (s .ring .«in_flight»))
+      (queue-kept (s .ring) (omega (arith, facts s ok wide .short, wide .places)))

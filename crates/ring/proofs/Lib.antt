@@ -4,8 +4,6 @@ pub mod Queue
 pub mod States
 pub mod Hands
 pub mod Wide
-pub mod Moves
 pub mod Sound
 pub mod Walk
 pub mod Pigeonhole
-pub mod Kept

@@ -1,27 +1,27 @@
 -- An acceptance: the record with the slot InFlight, the counters and armed is the one that shows the ledger after it, which is valid, with the
 -- queue as it was and the hand Idle. So the chain goes on from there. Assumes nothing.
-use mathlib.Core.Path.{_≡_, refl, sym, ap, _∙_}
-use mathlib.Core.Bool.{true, false}
+use mathlib.Core.Path.{_≡_, refl, sym, ap}
+use mathlib.Core.Bool.{true}
 use mathlib.Core.List.{List}
 use Prim.Native.Nat.{ℕ}
 use Rattle.ring.specs.declared.Hand.{Hand}
 use Rattle.ring.specs.declared.Ring.{Ring}
 use Rattle.ring.specs.Moves.{accepted}
 use Rattle.ring.specs.Parts.{queueOf}
-use Rattle.ring.specs.Slots.{isFree, holds}
+use Rattle.ring.specs.Slots.{holds}
 use Rattle.ring.proofs.Wide.{Wide}
 use Rattle.stream.specs.declared.Stream.{Stream}
 use Rattle.stream.specs.Parts.{withState}
 use Rattle.stream.specs.Sound.{sound}
 use Rattle.ledger.specs.Block.{bufferBytes}
-use Rattle.ledger.specs.Ledger.{Ledger, out, withHand, withMarks, withFlags, withTotals, marked, stateIn}
+use Rattle.ledger.specs.Ledger.{out, withHand, withMarks, withFlags, withTotals, marked}
 use Rattle.ledger.specs.Record.{view, stored}
 use Rattle.ledger.specs.Submitted.{oneSubmitted, acceptedLedger}
 use Rattle.ledger.proofs.Kept.{flagged, totalled}
 use Rattle.ledger.proofs.Moves.{sent-out, held-not-free}
 use Rattle.ledger.proofs.Rings.{ring-accepted}
 use Rattle.ledger.proofs.Valid.{Valid, sound-valid}
-use Rattle.submitted.proofs.InHand.{slot-below, alone}
+use Rattle.ledger.proofs.InHand.{slot-below, alone}
 
 module _ (s : Stream) (ok : sound s ≡ true) (wide : Wide (s .ring)) (i : ℕ) (held : holds (s .hand) i ≡ true) (block : List ℕ) where
   pub accepted-stored : withState s (accepted (s .ring) i) Hand.Idle (record { started = s .flags .started; armed = true }) (oneSubmitted (bufferBytes (s .setup) i block) (s .stats)) ≡ stored s (acceptedLedger (s .setup) i (view s) block)

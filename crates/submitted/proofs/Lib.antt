@@ -1,4 +1,3 @@
-pub mod InHand
 pub mod Accepting
 pub mod Failing
 pub mod Replies

@@ -15,7 +15,7 @@ use Rattle.stream.specs.declared.Reply.{Reply}
 use Rattle.stream.specs.declared.Stream.{Stream}
 use Rattle.stream.specs.declared.Submission.{Submission}
 use Rattle.stream.specs.Sound.{sound}
-use Rattle.ledger.specs.Step.{Next, refused}
+use Rattle.ledger.specs.Step.{refused}
 use Rattle.ledger.specs.Turn.{takeFront, silenceFront}
 use Rattle.ledger.specs.Submitted.{sent, chained, silent, bySending, submitted}
 use Rattle.ledger.specs.Record.{view, call}

@@ -6,7 +6,6 @@ use mathlib.Core.List.{List, [], _∷_}
 use Prim.Native.Nat.{ℕ}
 use Rattle.layout.specs.declared.Setup.{Setup}
 use Rattle.layout.specs.Opening.{totalOf}
-use Rattle.ring.specs.declared.Hand.{Hand}
 use Rattle.ring.specs.Parts.{queueOf}
 use Rattle.ring.proofs.Wide.{Wide}
 use Rattle.stream.specs.declared.Reply.{Reply}

@@ -1,19 +1,14 @@
 -- An underrun: counting it moves no slot, so the record's ring shows the ledger after it, and only a flag and a total differ. Then the policy
 -- decides. Assumes nothing.
-use mathlib.Core.Path.{_≡_, refl, sym, ap, ap₂, subst, _∙_}
+use mathlib.Core.Path.{_≡_, refl, sym, ap, subst, _∙_}
 use mathlib.Core.Bool.{Bool, true, false, _&&_, cond}
 use mathlib.Core.List.{List}
 use Prim.Native.Nat.{ℕ}
-use native.Mathlib.Omega.{arith}
 use lib.Dec.{eqb}
-use lib.ListN.{getD}
 use Rattle.error.specs.declared.Error.{Error}
 use Rattle.layout.specs.declared.Underrun.{Underrun}
-use Rattle.ring.specs.declared.Hand.{Hand}
 use Rattle.ring.specs.declared.Ring.{Ring}
-use Rattle.ring.specs.Parts.{queueOf, withQueue, withOut}
-use Rattle.ring.specs.Slots.{holds}
-use Rattle.ring.proofs.Queue.{queue-kept}
+use Rattle.ring.specs.Parts.{queueOf}
 use Rattle.ring.proofs.Wide.{Wide}
 use Rattle.stream.specs.declared.Answer.{Answer}
 use Rattle.stream.specs.declared.IsoStats.{IsoStats}
@@ -21,11 +16,12 @@ use Rattle.stream.specs.declared.Reply.{Reply}
 use Rattle.stream.specs.declared.Stream.{Stream}
 use Rattle.stream.specs.Parts.{withState}
 use Rattle.stream.specs.Sound.{sound}
-use Rattle.ledger.specs.Ledger.{Ledger, Mark, home, withFlags, withTotals, markOf, outs, slotState, stateIn}
-use Rattle.ledger.specs.Record.{view, ringFor, stored}
+use Rattle.ledger.specs.Ledger.{Ledger, withFlags, withTotals}
+use Rattle.ledger.specs.Record.{view, stored}
 use Rattle.ledger.specs.Step.{refused}
 use Rattle.ledger.specs.Turn.{takeFront, drained, oneUnderrun, underrun, onUnderrun, turnIdle}
-use Rattle.ledger.proofs.View.{facts, view-state, view-outs, none-changed}
+use Rattle.ledger.proofs.Rings.{ring-kept}
+use Rattle.ledger.proofs.View.{view-outs}
 use Rattle.turn.specs.Gives.{Gives}
 
 module _ (s : Stream) (ok : sound s ≡ true) (wide : Wide (s .ring)) where
@@ -33,22 +29,11 @@ module _ (s : Stream) (ok : sound s ≡ true) (wide : Wide (s .ring)) where
   unfolding drained view
   drained-is = ap (λ (k : ℕ). s .flags .started && s .flags .armed && eqb k 0) (view-outs s ok wide)
 
-  -- a ledger with the record's own hand, queue and marks is shown by the record's ring
-  pub ring-kept : (l : Ledger) → l .hand ≡ s .hand → l .queue ≡ queueOf (s .ring) → l .marks ≡ view s .marks → ringFor (s .setup .slots) (s .ring) l ≡ s .ring
-  unfolding withOut stateIn markOf view
-  ring-kept l lh lq lm =
-      none-changed s ok wide l
-      (λ j h.
-      ap₂ slotState (ap (λ (x : Hand). holds x j) lh) (ap (λ (m : List Mark). getD m j home) lm) ∙ view-state s ok wide j h) ∙
-      ap₂ (λ (q : List ℕ) (k : ℕ). withOut (withQueue (s .ring) q) k) lq (ap outs lm ∙ view-outs s ok wide) ∙
-      ap (λ (r : Ring). withOut r (s .ring .«in_flight»))
-      (queue-kept (s .ring) (omega (arith, facts s ok wide .short, wide .places)))
-
   pub counted : withState s (s .ring) (s .hand) (record { started = s .flags .started; armed = false }) (oneUnderrun (s .stats)) ≡ stored s (underrun (view s))
   unfolding stored underrun withTotals withFlags view
   counted =
       ap (λ (r : Ring). withState s r (s .hand) (record { started = s .flags .started; armed = false }) (oneUnderrun (s .stats)))
-      (sym (ring-kept (underrun (view s)) refl refl refl))
+      (sym (ring-kept s ok wide (underrun (view s)) (λ j. refl) refl refl))
 
   stored-totals : stored s (underrun (view s)) .stats ≡ underrun (view s) .totals
   unfolding stored withState

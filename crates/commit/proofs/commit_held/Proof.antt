@@ -1,11 +1,12 @@
 -- `commit::commit_held` meets its contract: past the capacity the slot is put back and the block is as it was; else its lengths are written and it is sent.
 -- Assumes nothing.
+use native.Mathlib.Omega.{arith}
 use borrow.Author.Needs.{needs}
 use Rattle.error.specs.declared.Error.{Error}
 use Rattle.ring.proofs.Wide.{Wide, table-long}
 use Rattle.stream.proofs.Soundness.{setup-accepted}
+use Rattle.ledger.proofs.InHand.{holding, slot-below}
 use Rattle.commit.proofs.Ends.{ends-back, ends-sent, too-long, fits}
-use Rattle.commit.proofs.Moves.{slot-below}
 use Rattle.commit.proofs.commit_held.Statement.{statement}
 use Rattle.commit.proofs.commit_held.Tie as tie
 
@@ -23,9 +24,9 @@ set-packet-lengths-requires : tie.Need-set-packet-lengths-requires
 set-packet-lengths-requires c κs =
     let d = c .before .before .before .before .before in (
       setup-accepted (d .args .s) (d .pre .0),
-      slot-below (d .args .s) (d .pre .0) (wide d) (d .args .i) (d .pre .1),
+      slot-below (d .args .s) (d .pre .0) (wide d) (d .args .i) (holding _ _ (d .pre .1)),
       d .pre .2,
-      rw (c .before .before .slot-capacity .ensures) at (c .before .if1 .left),
+      omega (arith, c .before .before .slot-capacity .ensures),
     )
 
 returns-2 : tie.Need-returns-2

@@ -5,8 +5,8 @@ use borrow.Author.Needs.{needs}
 use Rattle.error.specs.declared.Error.{Error}
 use Rattle.ring.proofs.Wide.{Wide, table-long}
 use Rattle.stream.proofs.Soundness.{setup-accepted}
+use Rattle.ledger.proofs.InHand.{holding, slot-below}
 use Rattle.commit.proofs.Ends.{ends-back, ends-sent, wrong-count, one-above, none-above}
-use Rattle.commit.proofs.Moves.{slot-below}
 use Rattle.commit.proofs.packets_held.Statement.{statement}
 use Rattle.commit.proofs.packets_held.Tie as tie
 
@@ -30,7 +30,7 @@ set-packet-lengths-exact-requires : tie.Need-set-packet-lengths-exact-requires
 set-packet-lengths-exact-requires c κs =
     let if1 = c .before .before .before in
     let d = if1 .before .before .before .before .before in (
-      (setup-accepted (d .args .s) (d .pre .0), slot-below (d .args .s) (d .pre .0) (wide d) (d .args .i) (d .pre .1), d .pre .2),
+      (setup-accepted (d .args .s) (d .pre .0), slot-below (d .args .s) (d .pre .0) (wide d) (d .args .i) (holding _ _ (d .pre .1)), d .pre .2),
       (if1 .if1 .left, sym (c .before .before .any-above .ensures) ∙ c .before .if2 .left),
     )
 

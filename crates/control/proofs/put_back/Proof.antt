@@ -1,9 +1,13 @@
 -- `control::put_back` meets its contract: there is room in the queue for the slot in hand, and its release is the ledger's return.
 -- Assumes nothing.
+use mathlib.Core.Path.{ap, _∙_}
 use borrow.Author.Needs.{needs}
+use Rattle.ring.specs.declared.Hand.{Hand}
+use Rattle.ring.specs.declared.Ring.{Ring}
 use Rattle.ring.proofs.Wide.{Wide}
+use Rattle.stream.specs.Parts.{withState}
+use Rattle.ledger.proofs.InHand.{queue-room, returned-stored}
 use Rattle.control.proofs.Arrays.{length-mapped}
-use Rattle.control.proofs.Handed.{room-back, put-back}
 use Rattle.control.proofs.put_back.Statement.{statement}
 use Rattle.control.proofs.put_back.Tie as tie
 
@@ -13,12 +17,15 @@ wide c = record { table = search (needs, length-mapped); places = search needs }
 release-requires : tie.Need-release-requires
 release-requires c κs =
     let d = c .before .before in
-    room-back (d .args .s) (d .pre .0) (wide d) (d .args .i) (d .pre .1)
+    queue-room (d .args .s) (d .pre .0) (wide d) (d .args .i) (d .pre .1)
 
 returns : tie.Need-returns
 returns c =
     let d = c .before .before .before .before in
-    put-back (d .args .s) (d .pre .0) (wide d) (d .args .i) (d .pre .1) _ (c .before .release .ensures) _ (c .with-state .ensures)
+    let s = d .args .s in
+    c .with-state .ensures ∙
+    ap (λ (r : Ring). withState s r Hand.Idle (s .flags) (s .stats)) (c .before .release .ensures) ∙
+    returned-stored s (d .pre .0) (wide d) (d .args .i) (d .pre .1)
 
 pub put-back-spec : {M : Type 1} → statement M
 put-back-spec = tie.close (tie.spec release-requires (λ c κs. search needs) returns)

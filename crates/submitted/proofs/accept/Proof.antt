@@ -1,13 +1,13 @@
 -- `submitted::accept` meets its contract: the out count has room for the slot in hand, and the record made anew is the one that shows the
 -- ledger after the acceptance. Assumes nothing.
-use mathlib.Core.Path.{_≡_, refl, sym, ap, _∙_}
+use mathlib.Core.Path.{ap, _∙_}
 use borrow.Author.Needs.{needs}
 use Rattle.ring.proofs.Wide.{Wide, table-long}
 use Rattle.stream.specs.Parts.{withState}
 use Rattle.stream.proofs.Soundness.{setup-accepted}
 use Rattle.ledger.specs.Ledger.{plus}
 use Rattle.ledger.specs.Submitted.{oneSubmitted}
-use Rattle.submitted.proofs.InHand.{slot-below, out-count-room}
+use Rattle.ledger.proofs.InHand.{slot-below, out-count-room}
 use Rattle.submitted.proofs.Accepting.{accepted-stored}
 use Rattle.submitted.proofs.accept.Statement.{statement}
 use Rattle.submitted.proofs.accept.Tie as tie
@@ -33,8 +33,10 @@ returns c =
     let count = bytes .before in
     let read = count .before .before in
     let d = read .before .before .before .before in
-    rw (c .mark-in-flight .ensures, bytes .wrapping-add-u642 .ensures, count .wrapping-add-u64 .ensures, read .buffer-bytes .ensures)
-    (accepted-stored (d .args .s) (d .pre .0) (wide d) (d .args .i) (d .pre .1) (d .args .block .now))
+    let s = d .args .s in
+    let total = bytes .wrapping-add-u642 .ensures ∙ ap (plus (s .stats .«bytes_submitted»)) (read .buffer-bytes .ensures) in
+    rw (c .mark-in-flight .ensures, total, count .wrapping-add-u64 .ensures)
+    (accepted-stored s (d .pre .0) (wide d) (d .args .i) (d .pre .1) (d .args .block .now))
 
 pub accept-spec : {M : Type 1} → statement M
 accept-spec =

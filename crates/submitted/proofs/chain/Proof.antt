@@ -1,6 +1,5 @@
 -- `submitted::chain` meets its contract: by what is left, one callee or the other gives what the rule says.
 -- Assumes nothing.
-use mathlib.Core.Path.{_≡_}
 use borrow.Author.Needs.{needs}
 use Rattle.ledger.specs.Record.{view}
 use Rattle.turn.proofs.Giving.{take-lent}

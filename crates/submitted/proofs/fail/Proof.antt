@@ -1,6 +1,6 @@
 -- `submitted::fail` meets its contract: the queue has room for the slot in hand, its release is the ledger's return, and the refusal is the
 -- errno's. Assumes nothing.
-use mathlib.Core.Path.{_≡_, refl, sym, ap, _∙_}
+use mathlib.Core.Path.{ap, _∙_}
 use Prim.Native.Nat.{ℕ}
 use borrow.Author.Needs.{needs}
 use Rattle.error.specs.declared.Error.{Error}
@@ -12,7 +12,7 @@ use Rattle.ring.proofs.Wide.{Wide, table-long}
 use Rattle.stream.specs.declared.Answer.{Answer}
 use Rattle.stream.specs.Parts.{withState}
 use Rattle.stream.proofs.Soundness.{setup-accepted}
-use Rattle.submitted.proofs.InHand.{queue-room}
+use Rattle.ledger.proofs.InHand.{queue-room}
 use Rattle.submitted.proofs.Failing.{failed}
 use Rattle.submitted.proofs.fail.Statement.{statement}
 use Rattle.submitted.proofs.fail.Tie as tie

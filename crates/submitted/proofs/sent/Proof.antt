@@ -1,6 +1,6 @@
 -- `submitted::sent` meets its contract: each arm knows the reply, and its callee gives what the rule says of that one.
 -- Assumes nothing.
-use mathlib.Core.Path.{_≡_, refl}
+use mathlib.Core.Path.{refl}
 use borrow.Author.Needs.{needs}
 use Rattle.ledger.specs.Submitted.{sent}
 use Rattle.submitted.proofs.Failing.{failed-lent}

@@ -1,6 +1,6 @@
 -- `submitted::silent` meets its contract: after an acceptance the chain goes on from the record that shows the ledger after it, so its outcome
 -- is the rule's; after a refusal the slot is back. Assumes nothing.
-use mathlib.Core.Path.{_≡_, _∙_}
+use mathlib.Core.Path.{_∙_}
 use borrow.Author.Needs.{needs}
 use Rattle.layout.specs.declared.Setup.{Setup}
 use Rattle.ring.proofs.Wide.{Wide, table-long}

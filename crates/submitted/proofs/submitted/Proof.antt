@@ -1,6 +1,6 @@
 -- `submitted::submitted` meets its contract: refused by the gate; refused by the hand; else what `sent` or `silent` gives is the rule's outcome.
 -- Assumes nothing.
-use mathlib.Core.Path.{_≡_, refl, sym, ap, _∙_}
+use mathlib.Core.Path.{_≡_, refl, sym, _∙_}
 use mathlib.Core.Bool.{true}
 use borrow.Author.Needs.{needs}
 use borrow.Author.Tests.{eq-eqb}

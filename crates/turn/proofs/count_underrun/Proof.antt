@@ -1,8 +1,5 @@
 -- `turn::count_underrun` meets its contract: the record with armed off and one more underrun is the one that shows the ledger after it.
 -- Assumes nothing.
-use mathlib.Core.Path.{_≡_, refl, sym, ap, _∙_}
-use mathlib.Core.Bool.{false}
-use Prim.Native.Nat.{ℕ}
 use borrow.Author.Needs.{needs}
 use Rattle.ring.proofs.Wide.{Wide, table-long}
 use Rattle.stream.specs.Parts.{withState}

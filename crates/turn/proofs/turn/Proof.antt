@@ -1,6 +1,6 @@
 -- `turn::turn` meets its contract: refused by the gate; refused by the hand; else what `turn_idle` gives is the rule's outcome.
 -- Assumes nothing.
-use mathlib.Core.Path.{_≡_, refl, sym, ap, _∙_}
+use mathlib.Core.Path.{_≡_, refl, sym, _∙_}
 use mathlib.Core.Bool.{true}
 use borrow.Author.Needs.{needs}
 use lib.ListN.{length}

@@ -1,6 +1,6 @@
 -- `turn::turn_idle` meets its contract: by whether the stream has run dry, one callee or the other gives what the rule says.
 -- Assumes nothing.
-use mathlib.Core.Path.{_≡_, sym, _∙_}
+use mathlib.Core.Path.{sym, _∙_}
 use mathlib.Core.Bool.{true, false}
 use borrow.Author.Needs.{needs}
 use Rattle.ledger.specs.Record.{view}

@@ -1,12 +1,13 @@
 -- `commit::hand::put_back` meets its contract: there is room in the queue for the slot in hand, and its release is the ledger's return.
 -- Assumes nothing.
 use mathlib.Core.Path.{ap, _∙_}
+use native.Mathlib.Omega.{arith}
 use borrow.Author.Needs.{needs}
 use Rattle.ring.specs.declared.Hand.{Hand}
 use Rattle.ring.specs.declared.Ring.{Ring}
 use Rattle.ring.proofs.Wide.{Wide, table-long}
 use Rattle.stream.specs.Parts.{withState}
-use Rattle.commit.proofs.Moves.{room-back, put-back}
+use Rattle.ledger.proofs.InHand.{holding, queue-room, returned-stored}
 use Rattle.commit.proofs.hand.put_back.Statement.{statement}
 use Rattle.commit.proofs.hand.put_back.Tie as tie
 
@@ -16,7 +17,8 @@ wide c = record { table = search (needs, table-long); places = search needs }
 release-requires : tie.Need-release-requires
 release-requires c κs =
     let d = c .before in
-    room-back (d .args .s) (d .pre .0) (wide d) (d .args .i) (d .pre .1)
+    let fits = queue-room (d .args .s) (d .pre .0) (wide d) (d .args .i) (holding _ _ (d .pre .1)) in
+    (omega arith, fits .1)
 
 returns : tie.Need-returns
 returns c =
@@ -25,7 +27,7 @@ returns c =
       c .reply .ensures .0,
       c .reply .ensures .1 ∙
           ap (λ (r : Ring). withState s r Hand.Idle (s .flags) (s .stats)) (c .before .release .ensures) ∙
-          put-back s (d .pre .0) (wide d) (d .args .i) (d .pre .1),
+          returned-stored s (d .pre .0) (wide d) (d .args .i) (holding _ _ (d .pre .1)),
     )
 
 pub put-back-spec : {M : Type 1} → statement M

@@ -1,6 +1,6 @@
 -- `front::silence_front` meets its contract: by what taking found, the record with the slot in hand and the slot silenced in the block, or
 -- record and block as they were. Assumes nothing.
-use mathlib.Core.Path.{_≡_, refl, sym, ap, _∙_}
+use mathlib.Core.Path.{refl}
 use borrow.Author.Needs.{needs}
 use Rattle.ring.proofs.Wide.{Wide, table-long}
 use Rattle.stream.proofs.Soundness.{setup-accepted}

@@ -1,6 +1,6 @@
 -- `front::take_front` meets its contract: by what taking found, the record with the slot in hand, or the record as it was.
 -- Assumes nothing.
-use mathlib.Core.Path.{_≡_, refl, sym, ap, _∙_}
+use mathlib.Core.Path.{refl}
 use borrow.Author.Needs.{needs}
 use Rattle.ring.proofs.Wide.{Wide, table-long}
 use Rattle.ledger.proofs.View.{facts}
