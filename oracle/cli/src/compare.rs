@@ -82,8 +82,10 @@ fn start(with: Option<&str>) -> io::Result<Child> {
 fn feed(child: &mut Child, runs: Option<Runs>, lines: SyncSender<Played>) -> io::Result<()> {
     let mut to = BufWriter::with_capacity(1 << 16, child.stdin.take().expect("a pipe"));
     let mut send = |mut played: Played| {
-        to.write_all(&std::mem::take(&mut played.bytes))?;
-        lines.send(played).map_err(|_| io::Error::from(io::ErrorKind::BrokenPipe))
+        let bytes = std::mem::take(&mut played.bytes);
+        // The lines first: a program that prints before it has read the whole run must not wait for the comparison.
+        lines.send(played).map_err(|_| io::Error::from(io::ErrorKind::BrokenPipe))?;
+        to.write_all(&bytes)
     };
     match runs {
         Some(runs) => each_run(runs, &mut send)?,
