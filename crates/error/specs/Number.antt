@@ -1,7 +1,7 @@
 -- The paper's number of each refusal.
 use Prim.Native.Nat.{ℕ}
 use Rattle.error.specs.declared.Error.{Error}
-use Rattle.error.specs.declared.Error.the-variants.{TooFewSlots, ZeroSize, TooManyPackets, LayoutOverflow, TooLarge, BlockLength, BaseAddress, Unsound, WrongHand, CommitTooLong, PacketCount, PacketTooLong, Disconnected, UsbfsMemory, PermissionDenied, Unsupported, Io, StrayNotice, Underrun, ListTooShort, UnsupportedSpeed, InvalidInterval, ZeroPacketBytes, ZeroPackets, ProductOverflow, NotIsochronous}
+use Rattle.error.specs.declared.Error.the-variants.{TooFewSlots, ZeroSize, TooManyPackets, LayoutOverflow, TooLarge, BlockLength, BaseAddress, Unsound, WrongHand, CommitTooLong, PacketCount, PacketTooLong, Disconnected, UsbfsMemory, PermissionDenied, Unsupported, Io, StrayNotice, Underrun, ListTooShort, UnsupportedSpeed, InvalidInterval, ZeroPacketBytes, ZeroPackets, ProductOverflow, NotIsochronous, IntervalUnknown, PacketSizeUnknown, PacketBytesTooLarge, InvalidEndpoint}
 
 abbrev pub numberOf : Error → ℕ
 numberOf TooFewSlots = 1
@@ -30,3 +30,7 @@ numberOf ZeroPacketBytes = 23
 numberOf ZeroPackets = 24
 numberOf ProductOverflow = 25
 numberOf NotIsochronous = 26
+numberOf IntervalUnknown = 27
+numberOf PacketSizeUnknown = 28
+numberOf PacketBytesTooLarge = 29
+numberOf InvalidEndpoint = 30

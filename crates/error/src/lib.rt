@@ -39,6 +39,11 @@ pub enum Error {
     ZeroPackets,
     ProductOverflow,
     NotIsochronous,
+    // The builder: 27 to 30.
+    IntervalUnknown,
+    PacketSizeUnknown,
+    PacketBytesTooLarge,
+    InvalidEndpoint,
 }
 
 // Which call an errno came from: a submission, with the ring's payload bytes, or another.
@@ -97,6 +102,10 @@ impl Error {
             Error::ZeroPackets => 24,
             Error::ProductOverflow => 25,
             Error::NotIsochronous => 26,
+            Error::IntervalUnknown => 27,
+            Error::PacketSizeUnknown => 28,
+            Error::PacketBytesTooLarge => 29,
+            Error::InvalidEndpoint => 30,
         }
     }
 }

@@ -19,7 +19,7 @@ ghost use Prim.Native.Nat.{_-_, _≤_, _<_};
 ghost use lib.ListN.{length, replicate};
 ghost use Rattle.layout.specs.Opening.{totalOf, accepted};
 ghost use Rattle.ring.specs.declared.SlotState.{SlotState};
-ghost use Rattle.stream.specs.Opened.{slotNumbers, openedStream, noSetup};
+ghost use Rattle.stream.specs.Opened.{slotNumbers, openedStream, noSetup, noStream};
 ghost use Rattle.opening.specs.Open.{openedHeader, openedBlock, openOutcome};
 
 // Internal: every slot Free.
@@ -99,6 +99,13 @@ fn no_setup() -> Setup
     }
 }
 
+// Internal: the record that comes with a refusal.
+pub fn no_stream() -> Stream
+    ensures { λ r. ⌜ r ≡ noStream ⌝ }
+{
+    opened(no_setup())
+}
+
 // Internal: every byte zero.
 fn clear(block: &mut [u8])
     ensures { λ _. ⌜ now (block .exit) ≡ replicate (length (now (block .entry))) 0 ⌝ }
@@ -145,7 +152,7 @@ pub fn open(setup: Setup, block: &mut [u8]) -> Reply
 {
     match setup.refusal(block.len()) {
         Opens::Refused(e) => Reply {
-            stream: opened(no_setup()),
+            stream: no_stream(),
             answer: Answer::Refused(e),
         },
         Opens::Yes(_) => {

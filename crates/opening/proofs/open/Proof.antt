@@ -1,20 +1,14 @@
 -- `opening::open` meets its contract. By the answer of `refusal`, either nothing is written and the record is that of no slots,
 -- or the values are accepted and the block has their total, and record and block are made anew. Assumes nothing.
-use mathlib.Core.Path.{_≡_, refl, sym, ap, _∙_}
-use native.Mathlib.Omega.{arith}
+use mathlib.Core.Path.{_≡_, refl, sym, _∙_}
 use borrow.Author.Needs.{needs}
 use lib.ListN.{length}
 use Rattle.layout.specs.Opening.{opens}
 use Rattle.layout.specs.declared.Opens.{Opens}
 use Rattle.layout.proofs.Acceptance.{Opened, opened-yes, accepts}
-use Rattle.stream.specs.Opened.{noSetup, noStream, openedStream}
 use Rattle.opening.specs.Open.{outcomeOf, openOutcome}
 use Rattle.opening.proofs.open.Statement.{statement}
 use Rattle.opening.proofs.open.Tie as tie
-
-opened-requires : tie.Need-opened-requires
-unfolding noSetup
-opened-requires c κs = rw (c .no-setup .ensures) (omega arith)
 
 -- where `refusal` lets the values pass
 passed : (c : tie.After-enum-told) → let a = c .before .before .before .before .args in opens (a .setup) (length (a .block .now)) ≡ Opens.Yes (c .enum-told .given .0 .0)
@@ -26,20 +20,19 @@ granted c = opened-yes _ _ _ (passed c)
 init-headers-requires : tie.Need-init-headers-requires
 init-headers-requires c κs = (granted (c .before) .accepted, granted (c .before) .length)
 
-opened-requires-2 : tie.Need-opened-requires-2
-opened-requires-2 c κs = accepts _ (granted (c .before .before .before .before) .accepted) .limits .slots
+opened-requires : tie.Need-opened-requires
+opened-requires c κs = accepts _ (granted (c .before .before .before .before) .accepted) .limits .slots
 
 returns : tie.Need-returns
-unfolding openOutcome outcomeOf noStream
+unfolding openOutcome outcomeOf
 returns c =
-    let told = c .before .before .before .e .given .1 in
-    let refused = sym (c .before .before .before .before .before .refusal .ensures) ∙ told in
-    rw refused (refl, c .opened .ensures ∙ ap openedStream (c .before .no-setup .ensures), refl)
+    let told = c .before .before in
+    rw (sym (told .before .before .refusal .ensures) ∙ told .e .given .1) (refl, c .no-stream .ensures, refl)
 
 returns-2 : tie.Need-returns-2
 unfolding openOutcome outcomeOf
 returns-2 c =
-    rw (passed (c .before .before .before .before .before)) (refl, c .opened2 .ensures, c .before .before .before .init-headers .ensures)
+    rw (passed (c .before .before .before .before .before)) (refl, c .opened .ensures, c .before .before .before .init-headers .ensures)
 
 pub open-spec : {M : Type 1} → statement M
 open-spec =
@@ -48,10 +41,9 @@ open-spec =
     (λ c κs. search needs)
     (λ c. search needs)
     (λ c κs. search needs)
-    opened-requires
     (λ c. search needs)
     init-headers-requires
-    opened-requires-2
+    opened-requires
     returns
     (λ c. search needs)
     returns-2)

@@ -1,0 +1,2 @@
+-- `Outcome`: build answers a schedule exactly where it opened the stream.
+pub mod Outcome
