@@ -5,9 +5,7 @@ use ring::Found;
 use stream::Completion;
 use sys::IsoPacketDesc;
 use sys::Urb;
-use sys::field::get_i32;
-use sys::field::get_non_negative;
-use sys::field::get_u64;
+use sys::field::non_negative;
 ghost use mathlib.Core.Path.{_≡_};
 ghost use mathlib.Core.Bool.{true};
 ghost use Prim.Native.Nat.{_-_, _*_, _≤_, _<_};
@@ -30,7 +28,7 @@ pub fn buffer_bytes(setup: Setup, block: &[u8], i: usize) -> u64
     ensures { λ r. ⌜ r ≡ bufferBytes setup i (now (block .entry)) ⌝ }
 {
     let at = setup.places(i);
-    get_non_negative(block, at.header + Urb::BUFFER_LENGTH)
+    non_negative(Urb::buffer_length_at(block, at.header))
 }
 
 // What `actual` lacks of `length`.
@@ -68,11 +66,11 @@ pub fn complete(setup: Setup, block: &[u8], i: usize, was_discarded: bool) -> Co
     let end = descs + IsoPacketDesc::SIZE * at.packets;
     let sums = packet_sums(&block[descs..end], at.packets);
     Completion {
-        status: get_i32(block, at.header + Urb::STATUS),
-        actual_bytes: get_non_negative(block, at.header + Urb::ACTUAL_LENGTH),
+        status: Urb::status_at(block, at.header),
+        actual_bytes: non_negative(Urb::actual_length_at(block, at.header)),
         requested_bytes: sums.requested,
         short_bytes: sums.short,
-        packet_errors: get_non_negative(block, at.header + Urb::ERROR_COUNT),
+        packet_errors: non_negative(Urb::error_count_at(block, at.header)),
         was_discarded,
     }
 }
@@ -91,7 +89,7 @@ fn slot_at(setup: Setup, block: &[u8], offset: usize) -> Found
         return Found::Nothing;
     }
     let i = offset / stride;
-    let cookie = get_u64(block, i * stride + Urb::USERCONTEXT);
+    let cookie = Urb::usercontext_at(block, i * stride);
     if cookie != i as u64 {
         return Found::Nothing;
     }

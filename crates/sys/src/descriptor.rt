@@ -1,5 +1,6 @@
 // A packet's descriptor, and reading and writing it in a lent slice.
 use crate::field::get_u32;
+use crate::field::has_room;
 use crate::field::lay;
 use error::Error;
 ghost use mathlib.Core.Path.{_≡_};
@@ -65,14 +66,11 @@ impl IsoPacketDesc {
     pub fn read(s: &[u8], at: usize) -> IsoPacketDescRead
         ensures { λ r. ⌜ r ≡ descRead at (now (s .entry)) ⌝ }
     {
-        let n = s.len();
-        if n < IsoPacketDesc::SIZE {
-            return IsoPacketDescRead::Refused(Error::BlockLength);
+        if has_room(s, at, IsoPacketDesc::SIZE) {
+            IsoPacketDescRead::Desc(IsoPacketDesc::load(s, at))
+        } else {
+            IsoPacketDescRead::Refused(Error::BlockLength)
         }
-        if n - IsoPacketDesc::SIZE < at {
-            return IsoPacketDescRead::Refused(Error::BlockLength);
-        }
-        IsoPacketDescRead::Desc(IsoPacketDesc::load(s, at))
     }
 }
 

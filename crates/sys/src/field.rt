@@ -1,9 +1,21 @@
-// Little-endian numbers in a lent slice. All of it is internal: each function asks for room at its offset, and every caller proves it.
+// Little-endian numbers in a lent slice. What reads or writes is internal: it asks for room at its offset, and every caller proves it.
 ghost use mathlib.Core.Path.{_≡_};
 ghost use Prim.Native.Nat.{_+_, _≤_, _<_, _^_};
+ghost use lib.Dec.{leb};
 ghost use lib.ListN.{length};
 ghost use Rattle.sys.specs.Bytes.{le, field, store, laid};
 ghost use Rattle.sys.specs.Signed.{signed, unsigned, nonNegative};
+
+// Whether the slice has `size` bytes at `at`.
+pub fn has_room(s: &[u8], at: usize, size: usize) -> bool
+    ensures { λ r. ⌜ r ≡ leb (at + size) (length (now (s .entry))) ⌝ }
+{
+    let n = s.len();
+    if n < size {
+        return false;
+    }
+    at <= n - size
+}
 
 // A byte as a wider number.
 fn wide(byte: u8) -> u64
@@ -95,13 +107,11 @@ pub fn get_i32(s: &[u8], at: usize) -> i32
     to_signed(get_u32(s, at))
 }
 
-// Internal: the signed number in the 4 bytes at `at`, or 0 where it is negative.
-pub fn get_non_negative(s: &[u8], at: usize) -> u64
-    requires { ⌜ at + 4 ≤ length (now s) ⌝ }
-    ensures { λ r. ⌜ r ≡ nonNegative (signed (field at 4 (now (s .entry)))) ⌝ }
+// A signed number, or 0 where it is negative.
+pub fn non_negative(x: i32) -> u64
+    ensures { λ r. ⌜ r ≡ nonNegative x ⌝ }
 {
-    let bits = get(s, at, 4);
-    if bits < 2147483648 { bits } else { 0 }
+    if x < 0 { 0 } else { x as u64 }
 }
 
 // Internal: stores a byte at `at`.

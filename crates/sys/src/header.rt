@@ -5,14 +5,16 @@ use crate::field::get_i32;
 use crate::field::get_u8;
 use crate::field::get_u32;
 use crate::field::get_u64;
+use crate::field::has_room;
 use crate::field::lay;
 use crate::field::to_unsigned;
 use error::Error;
 ghost use mathlib.Core.Path.{_≡_};
 ghost use Prim.Native.Nat.{_+_, _≤_};
 ghost use lib.ListN.{length};
-ghost use Rattle.sys.specs.Bytes.{store};
-ghost use Rattle.sys.specs.Header.{headerAt, headerRead, headerBytes, headerSize, slotHeader};
+ghost use Rattle.sys.specs.Bytes.{store, field};
+ghost use Rattle.sys.specs.Signed.{signed};
+ghost use Rattle.sys.specs.Header.{statusAt, bufferLengthAt, actualLengthAt, errorCountAt, cookieAt, headerAt, headerRead, headerBytes, headerSize, slotHeader};
 
 // struct usbdevfs_urb without its packet descriptors, which follow it.
 pub struct Urb {
@@ -109,6 +111,46 @@ impl Urb {
         lay(s, at, &widths, &values)
     }
 
+    // Internal: the status in the header that stands at `at`.
+    pub fn status_at(s: &[u8], at: usize) -> i32
+        requires { ⌜ at + headerSize ≤ length (now s) ⌝ }
+        ensures { λ r. ⌜ r ≡ signed (field (at + statusAt) 4 (now (s .entry))) ⌝ }
+    {
+        get_i32(s, at + Urb::STATUS)
+    }
+
+    // Internal: the buffer length in the header that stands at `at`.
+    pub fn buffer_length_at(s: &[u8], at: usize) -> i32
+        requires { ⌜ at + headerSize ≤ length (now s) ⌝ }
+        ensures { λ r. ⌜ r ≡ signed (field (at + bufferLengthAt) 4 (now (s .entry))) ⌝ }
+    {
+        get_i32(s, at + Urb::BUFFER_LENGTH)
+    }
+
+    // Internal: the actual length in the header that stands at `at`.
+    pub fn actual_length_at(s: &[u8], at: usize) -> i32
+        requires { ⌜ at + headerSize ≤ length (now s) ⌝ }
+        ensures { λ r. ⌜ r ≡ signed (field (at + actualLengthAt) 4 (now (s .entry))) ⌝ }
+    {
+        get_i32(s, at + Urb::ACTUAL_LENGTH)
+    }
+
+    // Internal: the error count in the header that stands at `at`.
+    pub fn error_count_at(s: &[u8], at: usize) -> i32
+        requires { ⌜ at + headerSize ≤ length (now s) ⌝ }
+        ensures { λ r. ⌜ r ≡ signed (field (at + errorCountAt) 4 (now (s .entry))) ⌝ }
+    {
+        get_i32(s, at + Urb::ERROR_COUNT)
+    }
+
+    // Internal: the cookie in the header that stands at `at`.
+    pub fn usercontext_at(s: &[u8], at: usize) -> u64
+        requires { ⌜ at + headerSize ≤ length (now s) ⌝ }
+        ensures { λ r. ⌜ r ≡ field (at + cookieAt) 8 (now (s .entry)) ⌝ }
+    {
+        get_u64(s, at + Urb::USERCONTEXT)
+    }
+
     // Internal: the header that stands at `at`.
     pub fn load(s: &[u8], at: usize) -> Urb
         requires { ⌜ at + headerSize ≤ length (now s) ⌝ }
@@ -117,16 +159,16 @@ impl Urb {
         Urb {
             typ: get_u8(s, at + Urb::TYPE),
             endpoint: get_u8(s, at + Urb::ENDPOINT),
-            status: get_i32(s, at + Urb::STATUS),
+            status: Urb::status_at(s, at),
             flags: get_u32(s, at + Urb::FLAGS),
             buffer: get_u64(s, at + Urb::BUFFER),
-            buffer_length: get_i32(s, at + Urb::BUFFER_LENGTH),
-            actual_length: get_i32(s, at + Urb::ACTUAL_LENGTH),
+            buffer_length: Urb::buffer_length_at(s, at),
+            actual_length: Urb::actual_length_at(s, at),
             start_frame: get_i32(s, at + Urb::START_FRAME),
             number_of_packets: get_i32(s, at + Urb::NUMBER_OF_PACKETS),
-            error_count: get_i32(s, at + Urb::ERROR_COUNT),
+            error_count: Urb::error_count_at(s, at),
             signr: get_u32(s, at + Urb::SIGNR),
-            usercontext: get_u64(s, at + Urb::USERCONTEXT),
+            usercontext: Urb::usercontext_at(s, at),
         }
     }
 
@@ -134,14 +176,11 @@ impl Urb {
     pub fn read(s: &[u8], at: usize) -> UrbRead
         ensures { λ r. ⌜ r ≡ headerRead at (now (s .entry)) ⌝ }
     {
-        let n = s.len();
-        if n < Urb::SIZE {
-            return UrbRead::Refused(Error::BlockLength);
+        if has_room(s, at, Urb::SIZE) {
+            UrbRead::Header(Urb::load(s, at))
+        } else {
+            UrbRead::Refused(Error::BlockLength)
         }
-        if n - Urb::SIZE < at {
-            return UrbRead::Refused(Error::BlockLength);
-        }
-        UrbRead::Header(Urb::load(s, at))
     }
 }
 

@@ -6,6 +6,7 @@ use borrow.Author.Needs.{needs}
 use Rattle.sys.specs.Bytes.{field}
 use Rattle.sys.specs.Signed.{signed, nonNegative}
 use Rattle.sys.specs.Header.{bufferLengthAt}
+use Rattle.sys.proofs.Signs.{held}
 use Rattle.layout.specs.declared.Places.{Places}
 use Rattle.ledger.specs.Block.{bufferBytes}
 use Rattle.notice.proofs.buffer_bytes.Statement.{statement}
@@ -14,10 +15,13 @@ use Rattle.notice.proofs.buffer_bytes.Tie as tie
 returns : tie.Need-returns
 unfolding bufferBytes
 returns c =
-    let start = c .before .before .before .before in
-    c .get-non-negative .ensures
-    ∙ ap (λ (at : Places). nonNegative (signed (field (at .header + bufferLengthAt) 4 (start .args .block .now)))) (c .before .before .places .ensures .is)
+    let read = c .before .buffer-length-at in
+    let placed = c .before .before in
+    let block = placed .before .before .args .block .now in
+    c .non-negative .ensures
+    ∙ ap nonNegative (held (read .result) _ (read .ok) (read .ensures))
+    ∙ ap (λ (at : Places). nonNegative (signed (field (at .header + bufferLengthAt) 4 block))) (placed .places .ensures .is)
 
 pub buffer-bytes-spec : {M : Type 1} → statement M
 buffer-bytes-spec =
-    tie.close (tie.spec (λ c κs. search needs) (λ c. search needs) (λ c κs. search needs) returns)
+    tie.close (tie.spec (λ c κs. search needs) (λ c κs. search needs) (λ c κs. search needs) returns)

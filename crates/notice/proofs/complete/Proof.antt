@@ -19,9 +19,11 @@ use Rattle.notice.proofs.complete.Tie as tie
 returns : tie.Need-returns
 unfolding completionOf sumsOf
 returns c =
-    let actual = c .before .before in
-    let status = actual .before .before in
-    let summed = status .before .before in
+    let errors = c .before .error-count-at in
+    let actual = c .before .before .before .actual-length-at in
+    let first = c .before .before .before .before in
+    let status = first .status-at in
+    let summed = first .before in
     let placed = summed .before .before .before in
     let start = placed .before .before in
     let block = start .args .block .now in
@@ -35,11 +37,11 @@ returns c =
     ∙ ap (λ (at : Places). packetsAt (s .«packets_per_urb») (at .descs) block) is in
     let sums = summed .packet-sums .ensures in
     λ i. record {
-      status = (held (status .get-i32 .result) _ (status .get-i32 .ok) (status .get-i32 .ensures) ∙ ap (λ (at : Places). signed (field (at .header + statusAt) 4 block)) is) i;
-      «actual_bytes» = (actual .get-non-negative .ensures ∙ ap (λ (at : Places). nonNegative (signed (field (at .header + actualLengthAt) 4 block))) is) i;
+      status = (held (status .result) _ (status .ok) (status .ensures) ∙ ap (λ (at : Places). signed (field (at .header + statusAt) 4 block)) is) i;
+      «actual_bytes» = (c .before .before .non-negative .ensures ∙ ap nonNegative (held (actual .result) _ (actual .ok) (actual .ensures)) ∙ ap (λ (at : Places). nonNegative (signed (field (at .header + actualLengthAt) 4 block))) is) i;
       «requested_bytes» = (ap (λ (m : Sums). m .requested) sums ∙ ap requested packets) i;
       «short_bytes» = (ap (λ (m : Sums). m .short) sums ∙ ap short packets) i;
-      «packet_errors» = (c .get-non-negative2 .ensures ∙ ap (λ (at : Places). nonNegative (signed (field (at .header + errorCountAt) 4 block))) is) i;
+      «packet_errors» = (c .non-negative2 .ensures ∙ ap nonNegative (held (errors .result) _ (errors .ok) (errors .ensures)) ∙ ap (λ (at : Places). nonNegative (signed (field (at .header + errorCountAt) 4 block))) is) i;
       «was_discarded» = start .args .was-discarded;
     }
 
@@ -54,10 +56,9 @@ complete-spec =
     (λ c. search needs)
     (λ c. search needs)
     (λ c κs. search needs)
-    (λ c. search needs)
     (λ c κs. search needs)
-    (λ c. search needs)
     (λ c κs. search needs)
-    (λ c. search needs)
+    (λ c κs. search needs)
+    (λ c κs. search needs)
     (λ c κs. search needs)
     returns)

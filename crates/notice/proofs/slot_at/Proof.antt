@@ -33,11 +33,10 @@ slot-at-spec =
     (λ c. between _ _ _ _ (is (c .before .before)) (c .before .if1 .left) (c .if2 .taken))
     (λ c. omega (arith, known (c .before .before)))
     (λ c. omega (arith, known (c .before .before), within (c .before)))
-    (λ c. omega (arith, known (c .before .before), within (c .before)))
     (λ c κs. omega (arith, known (c .before .before), within (c .before)))
     (λ c.
     let test = c .before .before in
-    stranger _ _ _ _ (is (test .before .before)) (test .before .if1 .left) (test .if2 .left) _ (c .before .get-u64 .ensures) (c .if3 .taken))
+    stranger _ _ _ _ (is (test .before .before)) (test .before .if1 .left) (test .if2 .left) _ (c .before .usercontext-at .ensures) (c .if3 .taken))
     (λ c.
     let test = c .before .before in
-    named _ _ _ _ (is (test .before .before)) (test .before .if1 .left) (test .if2 .left) _ (c .before .get-u64 .ensures) (c .if3 .left)))
+    named _ _ _ _ (is (test .before .before)) (test .before .if1 .left) (test .if2 .left) _ (c .before .usercontext-at .ensures) (c .if3 .left)))

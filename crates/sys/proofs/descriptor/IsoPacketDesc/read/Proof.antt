@@ -1,11 +1,9 @@
--- `sys::descriptor::IsoPacketDesc::read` meets its contract: the two tests together say whether the descriptor's 12 bytes are within the slice, and `load` reads them.
+-- `sys::descriptor::IsoPacketDesc::read` meets its contract: where there is room for the descriptor's bytes, `load` reads them.
 -- Assumes nothing.
-use mathlib.Core.Path.{ap, _∙_}
-use Prim.Native.Nat.{_+_}
-use native.Mathlib.Omega.{arith}
+use mathlib.Core.Path.{sym, ap, _∙_}
 use borrow.Author.Needs.{needs}
-use lib.ListN.{length}
-use Rattle.sys.specs.Descriptor.{descRead, descSize}
+use borrow.Author.Tests.{leb-true}
+use Rattle.sys.specs.Descriptor.{descRead}
 use Rattle.sys.specs.declared.descriptor.IsoPacketDescRead.the-variants.{Desc}
 use Rattle.sys.proofs.Room.{room, no-room}
 use Rattle.sys.proofs.descriptor.IsoPacketDesc.read.Statement.{statement}
@@ -16,9 +14,7 @@ unfolding descRead
 read-spec =
     tie.close
     (tie.spec
-    (λ c. let a = c .before .before .args in no-room (a .at + descSize) (length (a .s .now)) _ _ (omega arith))
-    (λ c. let a = c .before .before .before .args in no-room (a .at + descSize) (length (a .s .now)) _ _ (omega arith))
     (λ c κs. search needs)
-    (λ c.
-    let a = c .before .before .before .before .args in
-    ap Desc (c .load .ensures) ∙ room (a .at + descSize) (length (a .s .now)) _ _ (omega arith)))
+    (λ c κs. leb-true _ _ (sym (c .before .has-room .ensures) ∙ c .if1 .taken))
+    (λ c. ap Desc (c .load .ensures) ∙ room (c .before .before .has-room .ensures) _ _ (c .before .if1 .taken))
+    (λ c. no-room (c .before .has-room .ensures) _ _ (c .if1 .left)))
