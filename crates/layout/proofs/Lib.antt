@@ -4,4 +4,3 @@ pub mod Addresses
 pub mod Limits
 pub mod Acceptance
 pub mod Slots
-pub mod Edges

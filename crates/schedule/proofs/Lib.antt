@@ -1,4 +1,3 @@
 pub mod Raw
 pub mod Bounds
 pub mod Intervals
-pub mod Edges

@@ -1,0 +1,77 @@
+-- Every value of the cases computes. Assumes nothing.
+use mathlib.Core.Path.{refl}
+use Rattle.error.specs.declared.Error.{Error}
+use Rattle.sys.specs.Bytes as Bytes
+use Rattle.sys.specs.Signed as Signed
+use Rattle.sys.specs.Header as Header
+use Rattle.sys.specs.Descriptor as Descriptor
+use Rattle.schedule.specs.Interval.{packetIntervalUs, intervalFrom}
+use Rattle.schedule.specs.Derive.{derived, derivedFrom}
+use Rattle.layout.specs.Tests.{first, passed}
+use Rattle.layout.specs.Layout.{raised, slotStride, dataBase, dataStride, total, layoutOf, sizes, anyAbove, overflowing, laid, laidOut}
+use Rattle.layout.specs.Opening.{maskedOf, limit, layoutFor, totalOf, limits, badBase, baseAddress, accepted}
+use Rattle.layout.specs.Places.{placesOf}
+use Rattle.ring.specs.Slots as Slots
+use Rattle.ring.specs.Counts as Counts
+use Rattle.ring.specs.Parts.{queueOf, stateOf}
+use Rattle.ring.specs.Sound as Ring
+use Rattle.stream.specs.Opened.{slotNumbers, freeRing, openedStream}
+use Rattle.stream.specs.Parts.{withState}
+use Rattle.stream.specs.Sound.{sound}
+use Rattle.opening.specs.Open.{openedHeader, withHeaders, openedBlock}
+use Rattle.ledger.specs.Ledger as Ledger
+use Rattle.ledger.specs.Block as Block
+use Rattle.ledger.specs.Step as Step
+use Rattle.ledger.specs.Turn as Turn
+use Rattle.ledger.specs.Commit as Commit
+use Rattle.ledger.specs.Submitted as Submitted
+use Rattle.ledger.specs.Reaped as Reaped
+use Rattle.ledger.specs.Control as Control
+use Rattle.ledger.specs.Record as Record
+use Rattle.history.specs.History as History
+use Rattle.proved_edges.specs.Hosts as Hosts
+use Rattle.proved_edges.specs.Edges.{Edges, eightCalls}
+
+pub edges : Edges
+unfolding
+    raised slotStride dataBase dataStride total layoutOf sizes anyAbove overflowing first passed laid laidOut maskedOf limit layoutFor totalOf limits badBase baseAddress accepted placesOf
+    packetIntervalUs intervalFrom derived derivedFrom
+    Bytes.le Bytes.ofLe Bytes.store Bytes.laid Signed.signed Header.headerBytes Descriptor.descBytes Descriptor.descAt
+    openedHeader withHeaders openedBlock slotNumbers freeRing openedStream withState sound
+    queueOf stateOf Slots.isFree Slots.isFilling Slots.isOut Slots.one Slots.holds Slots.handWithin Counts.everySlot Counts.howMany Counts.times Counts.allBelow
+    Ring.queuedRight Ring.queueSound Ring.outSound Ring.heldRight Ring.handSound Ring.soundRing
+    Ledger.withHand Ledger.withQueue Ledger.withMarks Ledger.withFlags Ledger.withTotals Ledger.markOf Ledger.marked Ledger.outs Ledger.slotState Ledger.stateIn Ledger.returned Ledger.plus
+    Block.sum Block.shares Block.descriptors Block.committed Block.silenced Block.bufferBytes Block.cookieOf Block.packetsAt Block.requested Block.short Block.completionOf
+    Step.refused Step.onBlock Step.onIdle Step.onHeld Step.putBack
+    Turn.takeFront Turn.silenceFront Turn.drained Turn.oneUnderrun Turn.underrun Turn.onUnderrun Turn.turnIdle Turn.turn
+    Commit.send Commit.commitHeld Commit.commit
+    Submitted.oneSubmitted Submitted.acceptedLedger Submitted.sent Submitted.chained Submitted.silent Submitted.bySending Submitted.submitted
+    Reaped.slotAt Reaped.slotOfUrb Reaped.isZero Reaped.isGone Reaped.urbError Reaped.oneCompleted Reaped.noticed Reaped.byAddress Reaped.reapedIdle Reaped.reaped
+    Control.startedLedger Control.start
+    Record.markFor Record.view Record.statesFrom Record.ringFor Record.stored Record.call
+    History.rule History.lentTo History.made History.recordAfter
+    Hosts.opened Hosts.tell Hosts.lend eightCalls
+edges =
+    record {
+      layout-2-1-192 = refl;
+      layout-R = refl;
+      layout-2-128-1 = refl;
+      packets-129 = record { error = Error.TooManyPackets; is = refl; numbered = refl };
+      commit-800 = record { answer = refl; written = refl };
+      commit-801 = record { error = Error.CommitTooLong; is = refl; numbered = refl };
+      commit-250 = record { answer = refl; written = refl };
+      commit-0 = record { answer = refl; written = refl };
+      address-65688 = refl;
+      stray-65688 = record { error = Error.StrayNotice; is = refl; numbered = refl };
+      address-65689 = refl;
+      address-66144 = refl;
+      address-65535 = refl;
+      high-20-ms = refl;
+      full-11 = refl;
+      full-12 = refl;
+      high-14 = refl;
+      high-16 = refl;
+      size-1400 = refl;
+      silence-answers = refl;
+      silence-counters = refl;
+    }

@@ -1,0 +1,150 @@
+-- The paper's "Edges by number", those marked P, in its order and about the definitions that the contracts cite.
+use Prim.Native.Nat.{ℕ}
+use mathlib.Core.Bool.{false}
+use mathlib.Core.List.{List, [], _∷_, map}
+use mathlib.Core.Path.{_≡_}
+use lib.IntN.{pos}
+use Rattle.error.specs.declared.Error.{Error}
+use Rattle.error.specs.Number.{numberOf}
+use Rattle.sys.specs.declared.descriptor.IsoPacketDesc.{IsoPacketDesc}
+use Rattle.schedule.specs.declared.speed.Speed.{Speed}
+use Rattle.schedule.specs.declared.interval.Interval.{Interval}
+use Rattle.schedule.specs.declared.descriptor.Endpoint.{Endpoint}
+use Rattle.schedule.specs.declared.Depth.{Depth}
+use Rattle.schedule.specs.declared.Packets.{Packets}
+use Rattle.schedule.specs.declared.Derived.{Derived}
+use Rattle.schedule.specs.Interval.{packetIntervalUs}
+use Rattle.schedule.specs.Derive.{derived}
+use Rattle.schedule.specs.Endpoint.{bytesPerInterval}
+use Rattle.layout.specs.declared.Laid.{Laid}
+use Rattle.layout.specs.declared.Setup.{Setup}
+use Rattle.layout.specs.declared.Underrun.{Underrun}
+use Rattle.layout.specs.Layout.{laidOut}
+use Rattle.layout.specs.Places.{placesOf}
+use Rattle.ring.specs.declared.Found.{Found}
+use Rattle.stream.specs.declared.Answer.{Answer}
+use Rattle.stream.specs.declared.Reaping.{Reaping}
+use Rattle.stream.specs.declared.Submission.{Submission}
+use Rattle.opening.specs.Open.{openedBlock}
+use Rattle.ledger.specs.Block.{packetsAt}
+use Rattle.ledger.specs.Record.{Outcome}
+use Rattle.ledger.specs.Reaped.{slotOfUrb}
+use Rattle.history.specs.History.{turn, commit, submitted, reaped, start, made, recordAfter}
+use Rattle.proved_edges.specs.Hosts.{Host, opened, tell, lend}
+
+-- An answer is the refusal with that number.
+pub record Refuses {A : Type 0} (refused : Error → A) (answer : A) (number : ℕ) : Type 0 where
+  pub error : Error
+  pub is : answer ≡ refused error
+  pub numbered : numberOf error ≡ number
+
+-- An opening at base 65,536, with addresses that carry no tag, endpoint 1 and silence byte 0.
+abbrev pub setupOf : ℕ → ℕ → ℕ → Underrun → Setup
+setupOf n p b policy =
+    record {
+      slots = n;
+      «packets_per_urb» = p;
+      «packet_bytes» = b;
+      endpoint = 1;
+      underrun = policy;
+      «silence_byte» = 0;
+      base = 65536;
+      tagged = false;
+    }
+
+-- R, at base 65,536.
+abbrev pub R : Setup
+R = setupOf 4 8 100 Underrun.Continue
+
+-- On R: a commit of slot 0, which the first turn gave.
+abbrev pub committedOn : ℕ → Outcome
+committedOn bytes = made (commit bytes (openedBlock R)) (recordAfter R (turn (openedBlock R) ∷ []))
+
+-- It is taken, and leaves these lengths in the slot's descriptors.
+pub record Commits (bytes : ℕ) (lengths : List ℕ) : Type 0 where
+  pub answer : committedOn bytes .answer ≡ Answer.Submit 0
+  pub written : map (λ (d : IsoPacketDesc). d .length) (packetsAt 8 (placesOf R 0 .descs) (committedOn bytes .lent)) ≡ lengths
+
+-- On R as opened: a notice of that address.
+abbrev pub noticeOn : ℕ → Answer
+noticeOn address = made (reaped (Reaping.Address address) (openedBlock R)) (recordAfter R []) .answer
+
+-- Two slots, FillSilence.
+abbrev pub two : Setup
+two = setupOf 2 1 192 Underrun.FillSilence
+
+-- start, turn, commit, accepted, reaped 0, turn, accepted, accepted.
+unfoldable pub eightCalls : Host
+eightCalls =
+    lend two (submitted Submission.Accepted)
+    (lend two (submitted Submission.Accepted)
+    (lend two turn
+    (lend two (reaped (Reaping.Address 65536))
+    (lend two (submitted Submission.Accepted)
+    (lend two (commit 192)
+    (lend two turn
+    (tell two start
+    (opened two))))))))
+
+-- An isochronous endpoint with this wMaxPacketSize.
+abbrev pub endpointOf : ℕ → Endpoint
+endpointOf size = record { address = 1; attributes = 1; «max_packet_size» = size; interval = 1 }
+
+pub record Edges : Type 0 where
+  -- Layout (2,1,192): strides 72 and 192, data base 192, total 576.
+  pub layout-2-1-192 : laidOut 2 1 192 ≡ Laid.Layout (record { slots = 2; «slot_stride» = 72; «data_base» = 192; «data_stride» = 192; «packet_bytes» = 192; «packets_per_urb» = 1; «total_bytes» = 576; align = 64; «slot_capacity» = 192 })
+  -- (4,8,100), call it R: 152, 832, 640, 3968.
+  pub layout-R : laidOut 4 8 100 ≡ Laid.Layout (record { slots = 4; «slot_stride» = 152; «data_base» = 640; «data_stride» = 832; «packet_bytes» = 100; «packets_per_urb» = 8; «total_bytes» = 3968; align = 64; «slot_capacity» = 800 })
+  -- (2,128,1): stride 1592, base 3200, total 3456.
+  pub layout-2-128-1 : laidOut 2 128 1 ≡ Laid.Layout (record { slots = 2; «slot_stride» = 1592; «data_base» = 3200; «data_stride» = 128; «packet_bytes» = 1; «packets_per_urb» = 128; «total_bytes» = 3456; align = 64; «slot_capacity» = 128 })
+  -- 129 packets: 3.
+  pub packets-129 : Refuses Laid.Refused (laidOut 2 129 1) 3
+  -- On R, commit 800: all 100; 801: 10; 250: 100, 100, 50, five 0; 0: zeros.
+  pub commit-800 : Commits 800 (100 ∷ 100 ∷ 100 ∷ 100 ∷ 100 ∷ 100 ∷ 100 ∷ 100 ∷ [])
+  pub commit-801 : Refuses Answer.Refused (committedOn 801 .answer) 10
+  pub commit-250 : Commits 250 (100 ∷ 100 ∷ 50 ∷ 0 ∷ 0 ∷ 0 ∷ 0 ∷ 0 ∷ [])
+  pub commit-0 : Commits 0 (0 ∷ 0 ∷ 0 ∷ 0 ∷ 0 ∷ 0 ∷ 0 ∷ 0 ∷ [])
+  -- R at base 65,536: address 65,688 names slot 1 (18 while that is Free);
+  pub address-65688 : slotOfUrb R 65688 (openedBlock R) ≡ Found.Slot 1
+  pub stray-65688 : Refuses Answer.Refused (noticeOn 65688) 18
+  -- 65,689, 66,144 and 65,535 Foreign.
+  pub address-65689 : noticeOn 65689 ≡ Answer.Foreign
+  pub address-66144 : noticeOn 66144 ≡ Answer.Foreign
+  pub address-65535 : noticeOn 65535 ≡ Answer.Foreign
+  -- High, bInterval 4, 20 ms, 8 packets: 1000 µs, 3 URBs.
+  pub high-20-ms :
+      derived Speed.High 4 192 (Depth.Millis 20) (Packets.Given 8)
+      ≡ Derived.Schedule
+      (record { speed = Speed.High; «b_interval» = 4; «packet_interval_us» = 1000; «packets_per_urb» = 8; urbs = 3; «packet_bytes» = 192 })
+  -- Full 11 and 12, High 14 and 16: 1,024,000 µs.
+  pub full-11 : packetIntervalUs Speed.Full 11 ≡ Interval.Micros 1024000
+  pub full-12 : packetIntervalUs Speed.Full 12 ≡ Interval.Micros 1024000
+  pub high-14 : packetIntervalUs Speed.High 14 ≡ Interval.Micros 1024000
+  pub high-16 : packetIntervalUs Speed.High 16 ≡ Interval.Micros 1024000
+  -- wMaxPacketSize 1400 hex: 3072.
+  pub size-1400 : bytesPerInterval (endpointOf 0x1400) ≡ 3072
+  -- Two slots, FillSilence: start, turn Slot(0), commit, accepted, reaped 0, turn Submit(1), accepted Submit(0), accepted Nothing:
+  pub silence-answers :
+      eightCalls .answers
+      ≡ Answer.Done
+      ∷ Answer.Slot 0
+      ∷ Answer.Submit 0
+      ∷ Answer.Done
+      ∷ Answer.Completed (record { status = pos 0; «actual_bytes» = 0; «requested_bytes» = 192; «short_bytes» = 192; «packet_errors» = 0; «was_discarded» = false })
+      ∷ Answer.Submit 1
+      ∷ Answer.Submit 0
+      ∷ Answer.Nothing
+      ∷ []
+  -- submitted 3, completed 1, underruns 1.
+  pub silence-counters :
+      recordAfter two (eightCalls .calls) .stats
+      ≡ record {
+        «urbs_submitted» = 3;
+        «urbs_completed» = 1;
+        «bytes_submitted» = 576;
+        «bytes_transferred» = 0;
+        «short_bytes» = 192;
+        «packet_errors» = 0;
+        «urb_errors» = 0;
+        underruns = 1;
+      }
