@@ -2,20 +2,16 @@
 .PHONY: run test compare
 
 run:
-	@rt check iso_probe
-	@target/bin/iso_probe
+	@rt check counter
+	@target/bin/counter <crates/counter/stdin
 
 test:
-	@rt fmt --check
-	@tests/usbfs_header
-	@rt ci
+	@tests/all
 
 RUNS = 1000
 SEED = 1
 WITH =
-oracle = oracle/target/release/oracle
 
 compare:
-	@cargo build --release --offline --quiet --manifest-path oracle/Cargo.toml
-	@$(oracle) compare --functions $(if $(WITH),--with '$(WITH)')
-	@$(oracle) compare --runs $(RUNS) --seed $(SEED) $(if $(WITH),--with '$(WITH)')
+	@rt check beside
+	@WITH='$(WITH)' tests/beside_rust $(RUNS) $(SEED)

@@ -3,11 +3,11 @@
 mod compare;
 mod paper;
 
-use std::io::{stdin, stdout, BufReader, BufWriter, Write};
+use std::io::{self, stdin, stdout, BufReader, BufWriter, Write};
 use std::process::ExitCode;
 
 use compare::Runs;
-use form::BLOCK_LIMIT;
+use form::{pack, BLOCK_LIMIT};
 use paper::Wrong;
 
 /// The block of the smallest ring.
@@ -20,6 +20,7 @@ oracle compare --functions [--with COMMAND]           asks both for every input 
 oracle record --runs N [--seed S]                     writes N runs to standard output
 oracle lines --runs N [--seed S]                      prints the lines that the Rust shows for them
 oracle play [--wrong NAME]                            the paper's own player: reads runs, prints lines
+oracle pack                                           reads runs as text, writes them as bytes
 oracle wrong                                          prints the names of its deliberate mistakes
 Without --with, the paper's own player is compared. Blocks are at most BYTES long (524288).";
 
@@ -53,6 +54,12 @@ fn options(mut words: impl Iterator<Item = String>) -> Option<Options> {
     Some(o)
 }
 
+/// Makes bytes of the text on standard input.
+fn packed(out: &mut impl Write) -> io::Result<bool> {
+    let bytes = pack(&io::read_to_string(stdin())?).map_err(io::Error::other)?;
+    out.write_all(&bytes).map(|()| true)
+}
+
 fn main() -> ExitCode {
     let mut words = std::env::args().skip(1);
     let command = words.next().unwrap_or_default();
@@ -66,6 +73,7 @@ fn main() -> ExitCode {
         "record" => compare::each_run(o.runs, &mut |run| out.write_all(&run.bytes)).map(|()| true),
         "lines" => compare::each_run(o.runs, &mut |run| out.write_all(&run.lines)).map(|()| true),
         "play" => paper::play(BufReader::with_capacity(1 << 16, stdin().lock()), &mut out, o.wrong),
+        "pack" => packed(&mut out),
         "wrong" => Wrong::ALL.iter().try_for_each(|w| writeln!(out, "{}", w.0)).map(|()| true),
         _ => {
             eprintln!("{USAGE}");

@@ -1,9 +1,11 @@
 //! The form of recorded runs and of the lines that a player prints, as docs/RUNS.md has it.
 
 mod lines;
+mod pack;
 mod runs;
 
 pub use lines::{checksum, push_number, push_numbers, Answer, Hand, Line};
+pub use pack::pack;
 pub use runs::{Bad, Call, Item, Opening, Reader, Writer, BLOCK_LIMIT, FUNCTION_NUMBERS, LIST_LIMIT};
 
 /// The kinds of calls, by their numbers.

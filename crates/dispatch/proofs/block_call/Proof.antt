@@ -1,0 +1,17 @@
+-- `dispatch::block_call` is safe: no call that it makes asks for anything.
+-- Assumes nothing.
+use borrow.Author.Needs.{needs}
+use Rattle.dispatch.proofs.block_call.Statement.{statement}
+use Rattle.dispatch.proofs.block_call.Tie as tie
+
+pub block-call-spec : {M : Type 1} → statement M
+block-call-spec =
+    tie.close
+    (tie.spec
+    (λ c. search needs)
+    (λ c κs. search needs)
+    (λ c. search needs)
+    (λ c. search needs)
+    (λ c κs. search needs)
+    (λ c. search needs)
+    (λ c. search needs))

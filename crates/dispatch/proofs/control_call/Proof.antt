@@ -1,0 +1,21 @@
+-- `dispatch::control_call` is safe: no call that it makes asks for anything.
+-- Assumes nothing.
+use borrow.Author.Needs.{needs}
+use Rattle.dispatch.proofs.control_call.Statement.{statement}
+use Rattle.dispatch.proofs.control_call.Tie as tie
+
+pub control-call-spec : {M : Type 1} → statement M
+control-call-spec =
+    tie.close
+    (tie.spec
+    (λ c. search needs)
+    (λ c κs. search needs)
+    (λ c κs. search needs)
+    (λ c. search needs)
+    (λ c κs. search needs)
+    (λ c κs. search needs)
+    (λ c. search needs)
+    (λ c. search needs)
+    (λ c. search needs)
+    (λ c. search needs)
+    (λ c. search needs))

@@ -1,0 +1,25 @@
+-- `dispatch::host_call` is safe: no call that it makes asks for anything.
+-- Assumes nothing.
+use borrow.Author.Needs.{needs}
+use Rattle.dispatch.proofs.host_call.Statement.{statement}
+use Rattle.dispatch.proofs.host_call.Tie as tie
+
+pub host-call-spec : {M : Type 1} → statement M
+host-call-spec =
+    tie.close
+    (tie.spec
+    (λ c. search needs)
+    (λ c κs. search needs)
+    (λ c. search needs)
+    (λ c κs. search needs)
+    (λ c κs. search needs)
+    (λ c. search needs)
+    (λ c κs. search needs)
+    (λ c. search needs)
+    (λ c. search needs)
+    (λ c. search needs)
+    (λ c. search needs)
+    (λ c. search needs)
+    (λ c. search needs)
+    (λ c. search needs)
+    (λ c. search needs))

@@ -1,0 +1,22 @@
+// Plays the runs of standard input, which have the edges that cannot be run beside the Rust, and then makes calls on records
+// that no list of calls makes: counters before they wrap, and records that break the list of refusal 8, one rule each. All
+// lines are those of docs/RUNS.md; a line that starts with a letter says what follows.
+mod broken;
+mod wrapping;
+
+use broken::all_records;
+use input::Style;
+use player::play_input;
+use text::flush;
+use wrapping::all_counters;
+
+fn main() {
+    play_input(Style::Lines);
+    let mut out = io::large_buffer();
+    let mut list = [0usize; 256];
+    let mut small = [0u8; 576];
+    let mut block = [0u8; 3969];
+    let first = all_counters(&mut out, 0, &mut list, &mut small);
+    let end = all_records(&mut out, first, &mut list, &mut block);
+    flush(&out, end);
+}

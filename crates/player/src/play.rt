@@ -1,0 +1,119 @@
+// All runs and questions of the input.
+use super::run::run;
+use input::Cursor;
+use input::Stand;
+use input::Style;
+use input::number;
+use input::refill;
+use question::question;
+use screen::heading;
+use text::bytes;
+use text::flush;
+
+// Whether there is more to read, and where reading and printing stand.
+struct Played {
+    stand: Stand,
+    is_more: bool,
+}
+
+// One run or question.
+fn item(
+    input: &mut [u8],
+    out: &mut [u8],
+    list: &mut [usize],
+    block: &mut [u8],
+    from: Stand,
+) -> Stand {
+    let mark = number(input, from.cursor);
+    let cursor = mark.cursor;
+    let at = from.at;
+    let style = from.style;
+    if cursor.is_good && mark.value == 1 {
+        return run(input, out, list, block, Stand { cursor, at, style });
+    }
+    if cursor.is_good && mark.value == 2 {
+        return question(input, out, block, Stand { cursor, at, style });
+    }
+    Stand {
+        cursor: cursor.bad(),
+        at,
+        style,
+    }
+}
+
+// The next item, if the input doesn't end before it.
+fn next(
+    input: &mut [u8],
+    out: &mut [u8],
+    list: &mut [usize],
+    block: &mut [u8],
+    from: Stand,
+) -> Played {
+    let cursor = refill(input, from.cursor);
+    let at = from.at;
+    let style = from.style;
+    let stand = Stand { cursor, at, style };
+    if cursor.at >= cursor.end {
+        return Played {
+            stand,
+            is_more: false,
+        };
+    }
+    let done = item(input, out, list, block, stand);
+    let left = done.cursor;
+    Played {
+        stand: done,
+        is_more: left.is_good,
+    }
+}
+
+// All items. A proved loop has to end: no input has as many items as the count allows.
+fn play(
+    input: &mut [u8],
+    out: &mut [u8],
+    list: &mut [usize],
+    block: &mut [u8],
+    from: Stand,
+) -> Stand {
+    let mut played = Played {
+        stand: from,
+        is_more: true,
+    };
+    let mut turns = u64::MAX;
+    while turns > 0 && played.is_more {
+        played = next(input, out, list, block, played.stand);
+        turns -= 1;
+    }
+    played.stand
+}
+
+// Says so if the input was bad, and writes what is left.
+fn finish(out: &mut [u8], from: Stand) {
+    let cursor = from.cursor;
+    let at = from.at;
+    let style = from.style;
+    if cursor.is_good {
+        flush(out, at);
+    } else {
+        let end = bytes(out, at, b"Bad input\n");
+        flush(out, end);
+    }
+}
+
+// Where the output starts: a screen has a heading.
+fn start(out: &mut [u8], style: Style) -> Stand {
+    let cursor = Cursor::new();
+    let at = heading(out, style);
+    Stand { cursor, at, style }
+}
+
+// Plays what stands on standard input and prints it.
+pub fn play_input(style: Style) {
+    let mut input = io::large_buffer();
+    let mut out = io::large_buffer();
+    let mut list = [0usize; 256];
+    let mut block = [165u8; 524288];
+    let first = start(&mut out, style);
+    let done = play(&mut input, &mut out, &mut list, &mut block, first);
+    finish(&mut out, done);
+}

@@ -1,0 +1,291 @@
+// A run: an opening, then calls on the record that the last one left.
+use super::form::is_call;
+use super::form::is_opening;
+use super::form::setup_of;
+use dispatch::call;
+use input::Cursor;
+use input::Stand;
+use input::Style;
+use input::number;
+use input::numbers;
+use layout::Setup;
+use line::refused_line;
+use opening::open;
+use screen::show;
+use stream::Answer;
+use stream::Stream;
+use sys::field::put;
+use text::flush_half;
+
+// A call or the end mark: kind, argument, lent, W, L.
+struct Asked {
+    numbers: [u64; 5],
+    cursor: Cursor,
+}
+
+// Where printing stands after a call, and the record that the call left.
+pub struct Played {
+    pub at: usize,
+    pub stream: Stream,
+}
+
+// Where a run stands, with the record. A run ends with its end mark, or where the input is bad.
+struct Going {
+    stand: Stand,
+    stream: Stream,
+    is_more: bool,
+}
+
+// What every byte of a block is before the opening.
+fn fill(block: &mut [u8]) {
+    for k in 0..block.len() {
+        block[k] = 165;
+    }
+}
+
+// Puts 4 bytes into the block, unless they go past its end.
+fn put_within(block: &mut [u8], at: usize, value: u64) -> bool {
+    if block.len() < 4 {
+        return false;
+    }
+    if at > block.len() - 4 {
+        return false;
+    }
+    put(block, at, 4, value);
+    true
+}
+
+// One write into the block.
+fn write(input: &mut [u8], from: Cursor, block: &mut [u8]) -> Cursor {
+    let offset = number(input, from);
+    let value = number(input, offset.cursor);
+    let cursor = value.cursor;
+    let is_put = put_within(block, offset.value as usize, value.value);
+    cursor.only_if(is_put && value.value <= 0xffff_ffff)
+}
+
+fn writes(input: &mut [u8], from: Cursor, block: &mut [u8], count: u64) -> Cursor {
+    let mut cursor = from;
+    let mut left = count;
+    while left > 0 && cursor.is_good {
+        cursor = write(input, cursor, block);
+        left -= 1;
+    }
+    cursor
+}
+
+// One of commit_packets' lengths, at its place in the list.
+fn length(input: &mut [u8], from: Cursor, list: &mut [usize], k: usize) -> Cursor {
+    if k >= list.len() {
+        return from.bad();
+    }
+    let read = number(input, from);
+    list[k] = read.value as usize;
+    read.cursor
+}
+
+fn lengths(input: &mut [u8], from: Cursor, list: &mut [usize], count: usize) -> Cursor {
+    let mut cursor = from;
+    let mut k: usize = 0;
+    while k < count && cursor.is_good {
+        cursor = length(input, cursor, list, k);
+        k += 1;
+    }
+    cursor
+}
+
+// Reads a call and makes its writes.
+fn read_call(input: &mut [u8], from: Cursor, list: &mut [usize], block: &mut [u8]) -> Asked {
+    let mut v = [0u64; 5];
+    let read = numbers(input, from, &mut v);
+    let tested = read.only_if(is_call(v, block.len()));
+    let written = writes(input, tested, block, v[3]);
+    Asked {
+        numbers: v,
+        cursor: lengths(input, written, list, v[4] as usize),
+    }
+}
+
+// Makes a call and prints its line.
+pub fn make(
+    out: &mut [u8],
+    at: usize,
+    style: Style,
+    count: u64,
+    s: Stream,
+    v: [u64; 5],
+    list: &mut [usize],
+    block: &mut [u8],
+) -> Played {
+    let reply = call(s, v, list, block);
+    let answer = reply.answer;
+    let stream = reply.stream;
+    let end = show(out, at, style, v[0], count, answer, list, stream, block);
+    Played {
+        at: flush_half(out, end),
+        stream,
+    }
+}
+
+// The call that was read and its line, or the end of the run.
+fn answered(
+    out: &mut [u8],
+    list: &mut [usize],
+    block: &mut [u8],
+    from: Going,
+    count: u64,
+    read: Asked,
+) -> Going {
+    let stand = from.stand;
+    let stream = from.stream;
+    let at = stand.at;
+    let style = stand.style;
+    let cursor = read.cursor;
+    let v = read.numbers;
+    if !cursor.is_good || v[0] == 12 {
+        return Going {
+            stand: Stand { cursor, at, style },
+            stream,
+            is_more: false,
+        };
+    }
+    let done = make(out, at, style, count, stream, v, list, block);
+    let left = done.stream;
+    Going {
+        stand: Stand {
+            cursor,
+            at: done.at,
+            style,
+        },
+        stream: left,
+        is_more: true,
+    }
+}
+
+// Reads one call and makes it.
+fn one_call(
+    input: &mut [u8],
+    out: &mut [u8],
+    list: &mut [usize],
+    block: &mut [u8],
+    from: Going,
+    count: u64,
+) -> Going {
+    let stand = from.stand;
+    let read = read_call(input, stand.cursor, list, block);
+    answered(out, list, block, from, count, read)
+}
+
+// The calls of a run. A proved loop has to end: no run has as many calls as the count allows.
+fn calls(
+    input: &mut [u8],
+    out: &mut [u8],
+    list: &mut [usize],
+    block: &mut [u8],
+    from: Going,
+) -> Stand {
+    let mut going = from;
+    let mut count: u64 = 1;
+    while count < u64::MAX && going.is_more {
+        going = one_call(input, out, list, block, going, count);
+        count += 1;
+    }
+    going.stand
+}
+
+// Opens, prints the line, and plays the calls. A refused opening has none.
+fn opened(
+    input: &mut [u8],
+    out: &mut [u8],
+    list: &mut [usize],
+    block: &mut [u8],
+    from: Stand,
+    setup: Setup,
+) -> Stand {
+    let style = from.style;
+    fill(block);
+    let reply = open(setup, block);
+    let answer = reply.answer;
+    match answer {
+        Answer::Refused(e) => {
+            let at = refused_line(out, from.at, e, block);
+            let end = read_call(input, from.cursor, list, block);
+            let v = end.numbers;
+            let cursor = end.cursor;
+            Stand {
+                cursor: cursor.only_if(v[0] == 12),
+                at,
+                style,
+            }
+        }
+        _ => {
+            let stream = reply.stream;
+            let at = show(out, from.at, style, 12, 0, answer, list, stream, block);
+            let cursor = from.cursor;
+            let stand = Stand { cursor, at, style };
+            calls(
+                input,
+                out,
+                list,
+                block,
+                Going {
+                    stand,
+                    stream,
+                    is_more: true,
+                },
+            )
+        }
+    }
+}
+
+// The same in a block of that many bytes.
+fn opened_in(
+    input: &mut [u8],
+    out: &mut [u8],
+    list: &mut [usize],
+    block: &mut [u8],
+    from: Stand,
+    setup: Setup,
+    len: usize,
+) -> Stand {
+    if len > block.len() {
+        let cursor = from.cursor;
+        let style = from.style;
+        return Stand {
+            cursor: cursor.bad(),
+            at: from.at,
+            style,
+        };
+    }
+    opened(input, out, list, &mut block[..len], from, setup)
+}
+
+// One run.
+pub fn run(
+    input: &mut [u8],
+    out: &mut [u8],
+    list: &mut [usize],
+    block: &mut [u8],
+    from: Stand,
+) -> Stand {
+    let mut v = [0u64; 9];
+    let cursor = numbers(input, from.cursor, &mut v);
+    let at = from.at;
+    let style = from.style;
+    if !cursor.is_good || !is_opening(v) {
+        return Stand {
+            cursor: cursor.bad(),
+            at,
+            style,
+        };
+    }
+    opened_in(
+        input,
+        out,
+        list,
+        block,
+        Stand { cursor, at, style },
+        setup_of(v),
+        v[6] as usize,
+    )
+}

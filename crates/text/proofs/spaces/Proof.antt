@@ -1,0 +1,27 @@
+-- `text::spaces` is safe and ends. The output keeps its length; the measure is how many spaces are left. Assumes nothing.
+use Prim.Native.Nat.{_-_}
+use mathlib.Core.Path.{_≡_}
+use lib.ListN.{length}
+use borrow.Author.Needs.{needs}
+use Rattle.text.proofs.spaces.Statement.{statement}
+use Rattle.text.proofs.spaces.Tie as tie
+
+abbrev Inv-loop : tie.InvT-loop
+Inv-loop out₀ at count end₀ k₀ out end k = length out ≡ length out₀
+
+abbrev μ-loop : tie.MeasureT-loop
+μ-loop out₀ at count end₀ k₀ out end k = count - k
+
+pub spaces-spec : {M : Type 1} → statement M
+spaces-spec =
+    tie.close
+    (tie.spec
+    Inv-loop
+    μ-loop
+    (λ c. search needs)
+    (λ c κs. search needs)
+    (λ c. search needs)
+    (λ c. search needs)
+    (λ c. search needs)
+    (λ c. search needs)
+    (λ c. search needs))
