@@ -1,0 +1,20 @@
+-- reaped::reaped by value, on a lent record: the shape with a value and the block by `&`. Assumes nothing.
+use contract.Monad.{fact-mono}
+use contract.Running.{givenOf}
+use Rattle.stream.proofs.Reaping.{the-row}
+use Rattle.ledger.specs.Reaped.{reaped}
+use Rattle.ledger.specs.Record.{call}
+use Rattle.reaped.proofs.reaped.Met.{met}
+use Rattle.reaped.proofs.reaped.Symbol as called
+use Rattle.lent_shapes.proofs.Record.{reaping}
+use Rattle.lent_shapes.proofs.Shapes.{value-shared-lent}
+use Rattle.lent.proofs.reaped as own
+use Rattle.lent.proofs.reaped.Code as code
+use Rattle.lent.proofs.reaped.Key.{name}
+use Rattle.lent.proofs.reaped.Statement.{statement}
+
+pub reaped-spec : {M : Type 1} → statement M
+unfolding code.routine
+reaped-spec 𝓤 H 𝓜 𝓖 𝓡 =
+    value-shared-lent 𝓤 H 𝓜 𝓖 𝓡 code.env name called.name called.routine code.calls-reaped·reaped the-row (reaping 𝓤 H (𝓖 .A) (givenOf 𝓤 H 𝓜 𝓖)) (λ reply. call (reaped reply)) (code.unfolded 𝓤 H 𝓜 𝓡) (met 𝓤 H 𝓜 𝓖 𝓡)
+    (own.clauses 𝓤 H (𝓖 .A) (𝓜 .mem) (𝓡 .run)) (λ κs a g r e. fact-mono 𝓤 _ _ (λ told. told))
