@@ -1,19 +1,28 @@
-// The ten calls, by their kinds (docs/RUNS.md). For the programs of this repository: these functions promise that they are safe
+// The ten calls, by their kinds, and their lines (docs/RUNS.md). For the programs of this repository: these functions promise that they are safe
 // and end, since whatever a kind and its numbers are, the call that they pick refuses what is wrong.
-use commit::commit;
-use commit::commit_full;
-use commit::commit_packets;
-use control::finish;
-use control::give_back;
-use control::start;
-use control::stop;
-use reaped::reaped;
+use input::Mode;
+use screen::show;
 use stream::Reaping;
 use stream::Reply;
 use stream::Stream;
 use stream::Submission;
-use submitted::submitted;
-use turn::turn;
+use text::flush_half;
+use ways::commit;
+use ways::commit_full;
+use ways::commit_packets;
+use ways::finish;
+use ways::give_back;
+use ways::reaped;
+use ways::start;
+use ways::stop;
+use ways::submitted;
+use ways::turn;
+
+// Where printing stands after a call, and the record that the call left.
+pub struct Played {
+    pub at: usize,
+    pub stream: Stream,
+}
 
 // The kernel's errno.
 fn errno(v: [u64; 5]) -> u32 {
@@ -21,67 +30,89 @@ fn errno(v: [u64; 5]) -> u32 {
 }
 
 // commit_packets, of as many lengths as the list has at most.
-fn packets_call(s: Stream, count: usize, list: &[usize], block: &mut [u8]) -> Reply {
+fn packets_call(s: Stream, is_lent: bool, count: usize, list: &[usize], block: &mut [u8]) -> Reply {
     if count > list.len() {
-        return commit_packets(s, list, block);
+        return commit_packets(s, is_lent, list, block);
     }
-    commit_packets(s, &list[..count], block)
+    commit_packets(s, is_lent, &list[..count], block)
 }
 
 // Kinds 0 to 3.
-fn host_call(s: Stream, v: [u64; 5], list: &[usize], block: &mut [u8]) -> Reply {
+fn host_call(s: Stream, is_lent: bool, v: [u64; 5], list: &[usize], block: &mut [u8]) -> Reply {
     match v[0] {
-        0 => turn(s, block),
-        1 => commit(s, v[1] as usize, block),
-        2 => commit_full(s, block),
-        _ => packets_call(s, v[4] as usize, list, block),
+        0 => turn(s, is_lent, block),
+        1 => commit(s, is_lent, v[1] as usize, block),
+        2 => commit_full(s, is_lent, block),
+        _ => packets_call(s, is_lent, v[4] as usize, list, block),
     }
 }
 
 // Kinds 4 to 7.
-fn kernel_call(s: Stream, v: [u64; 5], block: &mut [u8]) -> Reply {
+fn kernel_call(s: Stream, is_lent: bool, v: [u64; 5], block: &mut [u8]) -> Reply {
     match v[0] {
-        4 => submitted(s, Submission::Accepted, block),
-        5 => submitted(s, Submission::Errno(errno(v)), block),
-        6 => reaped(s, Reaping::Errno(errno(v)), block),
-        _ => reaped(s, Reaping::Address(v[1] as usize), block),
+        4 => submitted(s, is_lent, Submission::Accepted, block),
+        5 => submitted(s, is_lent, Submission::Errno(errno(v)), block),
+        6 => reaped(s, is_lent, Reaping::Errno(errno(v)), block),
+        _ => reaped(s, is_lent, Reaping::Address(v[1] as usize), block),
     }
 }
 
 // stop, with as many places as the list has at most.
-fn stop_call(s: Stream, places: usize, list: &mut [usize]) -> Reply {
+fn stop_call(s: Stream, is_lent: bool, places: usize, list: &mut [usize]) -> Reply {
     if places > list.len() {
-        return stop(s, list);
+        return stop(s, is_lent, list);
     }
-    stop(s, &mut list[..places])
+    stop(s, is_lent, &mut list[..places])
 }
 
 // Kinds 8 to 11.
-fn control_call(s: Stream, v: [u64; 5], list: &mut [usize]) -> Reply {
+fn control_call(s: Stream, is_lent: bool, v: [u64; 5], list: &mut [usize]) -> Reply {
     match v[0] {
-        8 => give_back(s),
-        9 => start(s),
-        10 => stop_call(s, v[1] as usize, list),
-        _ => finish(s),
+        8 => give_back(s, is_lent),
+        9 => start(s, is_lent),
+        10 => stop_call(s, is_lent, v[1] as usize, list),
+        _ => finish(s, is_lent),
     }
 }
 
 // A call that is lent a block.
-fn block_call(s: Stream, v: [u64; 5], list: &[usize], block: &mut [u8]) -> Reply {
+fn block_call(s: Stream, is_lent: bool, v: [u64; 5], list: &[usize], block: &mut [u8]) -> Reply {
     if v[0] > 3 {
-        return kernel_call(s, v, block);
+        return kernel_call(s, is_lent, v, block);
     }
-    host_call(s, v, list, block)
+    host_call(s, is_lent, v, list, block)
 }
 
 // The call, on the part of the block that is lent.
-pub fn call(s: Stream, v: [u64; 5], list: &mut [usize], block: &mut [u8]) -> Reply {
+fn call(s: Stream, is_lent: bool, v: [u64; 5], list: &mut [usize], block: &mut [u8]) -> Reply {
     let lent = v[2] as usize;
     if v[0] > 7 {
-        return control_call(s, v, list);
+        return control_call(s, is_lent, v, list);
     }
     if lent > block.len() {
-        return block_call(s, v, list, block);
+        return block_call(s, is_lent, v, list, block);
     }
-    block_call(s, v, list, &mut block[..lent])
+    block_call(s, is_lent, v, list, &mut block[..lent])
+}
+
+// Makes a call and prints its line.
+pub fn make(
+    out: &mut [u8],
+    at: usize,
+    mode: Mode,
+    count: u64,
+    s: Stream,
+    v: [u64; 5],
+    list: &mut [usize],
+    block: &mut [u8],
+) -> Played {
+    let reply = call(s, mode.is_lent, v, list, block);
+    let answer = reply.answer;
+    let stream = reply.stream;
+    let style = mode.style;
+    let end = show(out, at, style, v[0], count, answer, list, stream, block);
+    Played {
+        at: flush_half(out, end),
+        stream,
+    }
 }

@@ -1,9 +1,10 @@
 // Records that break the list of refusal 8, one rule each, with some that look odd and pass. All start from this one: R (four
 // slots, eight packets of 100 bytes) at base 65,536, slot 0 InFlight, 1 Discarding, 2 in hand, 3 in the queue.
+use dispatch::make;
+use input::Mode;
 use input::Style;
 use layout::Setup;
 use layout::Underrun;
-use player::make;
 use ring::Cell;
 use ring::Hand;
 use ring::Ring;
@@ -220,6 +221,14 @@ fn lent(k: u64) -> u64 {
     if k == 26 { 3969 } else { 3968 }
 }
 
+// Lines, of calls by value.
+pub fn lines() -> Mode {
+    Mode {
+        style: Style::Lines,
+        is_lent: false,
+    }
+}
+
 // The line of one call on one record; its number is the kind (docs/RUNS.md).
 fn called(
     out: &mut [u8],
@@ -230,7 +239,7 @@ fn called(
     block: &mut [u8],
 ) -> usize {
     let numbers = [kind, argument(kind), lent(k), 0, 0];
-    let done = make(out, at, Style::Lines, kind, record(k), numbers, list, block);
+    let done = make(out, at, lines(), kind, record(k), numbers, list, block);
     done.at
 }
 

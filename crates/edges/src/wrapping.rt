@@ -1,10 +1,10 @@
 // Counters that wrap: a ring of two slots whose eight counters all stand at 2^64 - 1, through a whole cycle and an underrun.
-use input::Style;
+use super::broken::lines;
+use dispatch::Played;
+use dispatch::make;
 use layout::Setup;
 use layout::Underrun;
 use opening::open;
-use player::Played;
-use player::make;
 use stream::Flags;
 use stream::IsoStats;
 use stream::Reply;
@@ -89,7 +89,7 @@ fn step(out: &mut [u8], from: Played, count: u64, list: &mut [usize], block: &mu
     make(
         out,
         from.at,
-        Style::Lines,
+        lines(),
         count,
         s,
         [kind(count), 65536, lent, 0, 0],

@@ -16,11 +16,17 @@ pub enum Style {
     Screen,
 }
 
-// Where reading and printing stand, and what is printed.
+// What is printed, and whether the calls are made on a record that is lent.
+pub struct Mode {
+    pub style: Style,
+    pub is_lent: bool,
+}
+
+// Where reading and printing stand, and how a run is played.
 pub struct Stand {
     pub cursor: Cursor,
     pub at: usize,
-    pub style: Style,
+    pub mode: Mode,
 }
 
 // A number and the place behind it.

@@ -5,5 +5,3 @@ mod play;
 mod run;
 
 pub use play::play_input;
-pub use run::Played;
-pub use run::make;

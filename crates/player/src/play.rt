@@ -1,6 +1,7 @@
 // All runs and questions of the input.
 use super::run::run;
 use input::Cursor;
+use input::Mode;
 use input::Stand;
 use input::Style;
 use input::number;
@@ -16,6 +17,15 @@ struct Played {
     is_more: bool,
 }
 
+// A run of mark 3 is played on a record that is lent.
+fn mode_of(mode: Mode, mark: u64) -> Mode {
+    let style = mode.style;
+    Mode {
+        style,
+        is_lent: mark == 3,
+    }
+}
+
 // One run or question.
 fn item(
     input: &mut [u8],
@@ -27,17 +37,17 @@ fn item(
     let mark = number(input, from.cursor);
     let cursor = mark.cursor;
     let at = from.at;
-    let style = from.style;
-    if cursor.is_good && mark.value == 1 {
-        return run(input, out, list, block, Stand { cursor, at, style });
+    let mode = mode_of(from.mode, mark.value);
+    if cursor.is_good && (mark.value == 1 || mark.value == 3) {
+        return run(input, out, list, block, Stand { cursor, at, mode });
     }
     if cursor.is_good && mark.value == 2 {
-        return question(input, out, block, Stand { cursor, at, style });
+        return question(input, out, block, Stand { cursor, at, mode });
     }
     Stand {
         cursor: cursor.bad(),
         at,
-        style,
+        mode,
     }
 }
 
@@ -51,8 +61,8 @@ fn next(
 ) -> Played {
     let cursor = refill(input, from.cursor);
     let at = from.at;
-    let style = from.style;
-    let stand = Stand { cursor, at, style };
+    let mode = from.mode;
+    let stand = Stand { cursor, at, mode };
     if cursor.at >= cursor.end {
         return Played {
             stand,
@@ -91,7 +101,6 @@ fn play(
 fn finish(out: &mut [u8], from: Stand) {
     let cursor = from.cursor;
     let at = from.at;
-    let style = from.style;
     if cursor.is_good {
         flush(out, at);
     } else {
@@ -104,7 +113,11 @@ fn finish(out: &mut [u8], from: Stand) {
 fn start(out: &mut [u8], style: Style) -> Stand {
     let cursor = Cursor::new();
     let at = heading(out, style);
-    Stand { cursor, at, style }
+    let mode = Mode {
+        style,
+        is_lent: false,
+    };
+    Stand { cursor, at, mode }
 }
 
 // Plays what stands on standard input and prints it.

@@ -2,10 +2,10 @@
 use super::form::is_call;
 use super::form::is_opening;
 use super::form::setup_of;
-use dispatch::call;
+use dispatch::make;
+use error::Error;
 use input::Cursor;
 use input::Stand;
-use input::Style;
 use input::number;
 use input::numbers;
 use layout::Setup;
@@ -13,20 +13,20 @@ use line::refused_line;
 use opening::open;
 use screen::show;
 use stream::Answer;
+use stream::Reply;
 use stream::Stream;
 use sys::field::put;
-use text::flush_half;
+
+// Opening's nine values.
+struct Opening {
+    numbers: [u64; 9],
+    cursor: Cursor,
+}
 
 // A call or the end mark: kind, argument, lent, W, L.
 struct Asked {
     numbers: [u64; 5],
     cursor: Cursor,
-}
-
-// Where printing stands after a call, and the record that the call left.
-pub struct Played {
-    pub at: usize,
-    pub stream: Stream,
 }
 
 // Where a run stands, with the record. A run ends with its end mark, or where the input is bad.
@@ -106,27 +106,6 @@ fn read_call(input: &mut [u8], from: Cursor, list: &mut [usize], block: &mut [u8
     }
 }
 
-// Makes a call and prints its line.
-pub fn make(
-    out: &mut [u8],
-    at: usize,
-    style: Style,
-    count: u64,
-    s: Stream,
-    v: [u64; 5],
-    list: &mut [usize],
-    block: &mut [u8],
-) -> Played {
-    let reply = call(s, v, list, block);
-    let answer = reply.answer;
-    let stream = reply.stream;
-    let end = show(out, at, style, v[0], count, answer, list, stream, block);
-    Played {
-        at: flush_half(out, end),
-        stream,
-    }
-}
-
 // The call that was read and its line, or the end of the run.
 fn answered(
     out: &mut [u8],
@@ -139,23 +118,23 @@ fn answered(
     let stand = from.stand;
     let stream = from.stream;
     let at = stand.at;
-    let style = stand.style;
+    let mode = stand.mode;
     let cursor = read.cursor;
     let v = read.numbers;
     if !cursor.is_good || v[0] == 12 {
         return Going {
-            stand: Stand { cursor, at, style },
+            stand: Stand { cursor, at, mode },
             stream,
             is_more: false,
         };
     }
-    let done = make(out, at, style, count, stream, v, list, block);
+    let done = make(out, at, mode, count, stream, v, list, block);
     let left = done.stream;
     Going {
         stand: Stand {
             cursor,
             at: done.at,
-            style,
+            mode,
         },
         stream: left,
         is_more: true,
@@ -193,7 +172,52 @@ fn calls(
     going.stand
 }
 
-// Opens, prints the line, and plays the calls. A refused opening has none.
+// The line of a refused opening. Its run has no calls.
+fn refused_run(
+    input: &mut [u8],
+    out: &mut [u8],
+    list: &mut [usize],
+    block: &mut [u8],
+    from: Stand,
+    e: Error,
+) -> Stand {
+    let mode = from.mode;
+    let at = refused_line(out, from.at, e, block);
+    let end = read_call(input, from.cursor, list, block);
+    let v = end.numbers;
+    let cursor = end.cursor;
+    Stand {
+        cursor: cursor.only_if(v[0] == 12),
+        at,
+        mode,
+    }
+}
+
+// The line of the opening, and the calls.
+fn opened_run(
+    input: &mut [u8],
+    out: &mut [u8],
+    list: &mut [usize],
+    block: &mut [u8],
+    from: Stand,
+    reply: Reply,
+) -> Stand {
+    let answer = reply.answer;
+    let stream = reply.stream;
+    let cursor = from.cursor;
+    let mode = from.mode;
+    let style = mode.style;
+    let at = show(out, from.at, style, 12, 0, answer, list, stream, block);
+    let stand = Stand { cursor, at, mode };
+    let going = Going {
+        stand,
+        stream,
+        is_more: true,
+    };
+    calls(input, out, list, block, going)
+}
+
+// Opens, and plays the run.
 fn opened(
     input: &mut [u8],
     out: &mut [u8],
@@ -202,39 +226,12 @@ fn opened(
     from: Stand,
     setup: Setup,
 ) -> Stand {
-    let style = from.style;
     fill(block);
     let reply = open(setup, block);
     let answer = reply.answer;
     match answer {
-        Answer::Refused(e) => {
-            let at = refused_line(out, from.at, e, block);
-            let end = read_call(input, from.cursor, list, block);
-            let v = end.numbers;
-            let cursor = end.cursor;
-            Stand {
-                cursor: cursor.only_if(v[0] == 12),
-                at,
-                style,
-            }
-        }
-        _ => {
-            let stream = reply.stream;
-            let at = show(out, from.at, style, 12, 0, answer, list, stream, block);
-            let cursor = from.cursor;
-            let stand = Stand { cursor, at, style };
-            calls(
-                input,
-                out,
-                list,
-                block,
-                Going {
-                    stand,
-                    stream,
-                    is_more: true,
-                },
-            )
-        }
+        Answer::Refused(e) => refused_run(input, out, list, block, from, e),
+        _ => opened_run(input, out, list, block, from, reply),
     }
 }
 
@@ -250,14 +247,23 @@ fn opened_in(
 ) -> Stand {
     if len > block.len() {
         let cursor = from.cursor;
-        let style = from.style;
+        let mode = from.mode;
         return Stand {
             cursor: cursor.bad(),
             at: from.at,
-            style,
+            mode,
         };
     }
     opened(input, out, list, &mut block[..len], from, setup)
+}
+
+fn read_opening(input: &mut [u8], from: Cursor) -> Opening {
+    let mut v = [0u64; 9];
+    let read = numbers(input, from, &mut v);
+    Opening {
+        numbers: v,
+        cursor: read.only_if(is_opening(v)),
+    }
 }
 
 // One run.
@@ -268,24 +274,14 @@ pub fn run(
     block: &mut [u8],
     from: Stand,
 ) -> Stand {
-    let mut v = [0u64; 9];
-    let cursor = numbers(input, from.cursor, &mut v);
     let at = from.at;
-    let style = from.style;
-    if !cursor.is_good || !is_opening(v) {
-        return Stand {
-            cursor: cursor.bad(),
-            at,
-            style,
-        };
+    let mode = from.mode;
+    let read = read_opening(input, from.cursor);
+    let cursor = read.cursor;
+    let v = read.numbers;
+    let stand = Stand { cursor, at, mode };
+    if !cursor.is_good {
+        return stand;
     }
-    opened_in(
-        input,
-        out,
-        list,
-        block,
-        Stand { cursor, at, style },
-        setup_of(v),
-        v[6] as usize,
-    )
+    opened_in(input, out, list, block, stand, setup_of(v), v[6] as usize)
 }

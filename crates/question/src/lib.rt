@@ -177,14 +177,14 @@ fn results(out: &mut [u8], at: usize, q: [u64; 13], block: &mut [u8]) -> usize {
 
 // One question and its line. A stream is built in the block.
 pub fn question(input: &mut [u8], out: &mut [u8], block: &mut [u8], from: Stand) -> Stand {
-    let style = from.style;
+    let mode = from.mode;
     let mut q = [0u64; 13];
     let read = numbers(input, from.cursor, &mut q);
     if !read.is_good || !is_narrow(q) || !is_padded(q) {
         return Stand {
             cursor: read.bad(),
             at: from.at,
-            style,
+            mode,
         };
     }
     let first = name(out, from.at, q);
@@ -193,6 +193,6 @@ pub fn question(input: &mut [u8], out: &mut [u8], block: &mut [u8], from: Stand)
     Stand {
         cursor: read,
         at: flush_half(out, end),
-        style,
+        mode,
     }
 }

@@ -4,7 +4,7 @@ use std::io::{self, BufRead, BufReader, BufWriter, Write};
 use std::process::{Child, Command, Stdio};
 use std::sync::mpsc::{sync_channel, Receiver, SyncSender};
 
-use form::Writer;
+use form::{Writer, LENT_RUN};
 
 /// One run, or a batch of questions: what the program reads, the lines that the Rust shows, and how many calls.
 pub struct Played {
@@ -27,6 +27,8 @@ pub struct Runs {
     pub count: u64,
     pub seed: u64,
     pub longest_block: u64,
+    /// Whether the calls are to be made on a record that is lent.
+    pub is_lent: bool,
 }
 
 /// Generates runs: one in four on the build whose addresses carry a tag.
@@ -34,10 +36,13 @@ pub fn each_run(runs: Runs, to: &mut dyn FnMut(Played) -> io::Result<()>) -> io:
     for k in 0..runs.count {
         // Each run has a seed of its own, so that it can be made again alone.
         let own = runs.seed.wrapping_add(k);
-        let (bytes, lines, calls) = match own % 4 {
+        let (mut bytes, lines, calls) = match own % 4 {
             0 => usbfs_iso_tagged::play(own, runs.longest_block),
             _ => usbfs_iso_plain::play(own, runs.longest_block),
         };
+        if runs.is_lent {
+            bytes[..8].copy_from_slice(&LENT_RUN.to_le_bytes());
+        }
         to(Played { name: format!("run of seed {own}"), bytes, lines, calls })?;
     }
     Ok(())

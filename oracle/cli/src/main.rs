@@ -14,15 +14,16 @@ use paper::Wrong;
 const SHORTEST: u64 = 320;
 
 const USAGE: &str = "\
-oracle compare --runs N [--seed S] [--block BYTES] [--with COMMAND]
+oracle compare --runs N [--seed S] [--block BYTES] [--lent] [--with COMMAND]
                                                       plays N runs on the Rust and on COMMAND
 oracle compare --functions [--with COMMAND]           asks both for every input of the functions
-oracle record --runs N [--seed S]                     writes N runs to standard output
+oracle record --runs N [--seed S] [--lent]            writes N runs to standard output
 oracle lines --runs N [--seed S]                      prints the lines that the Rust shows for them
 oracle play [--wrong NAME]                            the paper's own player: reads runs, prints lines
 oracle pack                                           reads runs as text, writes them as bytes
 oracle wrong                                          prints the names of its deliberate mistakes
-Without --with, the paper's own player is compared. Blocks are at most BYTES long (524288).";
+Without --with, the paper's own player is compared. Blocks are at most BYTES long (524288).
+With --lent the calls are made on a record that is lent.";
 
 struct Options {
     runs: Runs,
@@ -33,7 +34,7 @@ struct Options {
 
 fn options(mut words: impl Iterator<Item = String>) -> Option<Options> {
     let mut o = Options {
-        runs: Runs { count: 0, seed: 1, longest_block: BLOCK_LIMIT },
+        runs: Runs { count: 0, seed: 1, longest_block: BLOCK_LIMIT, is_lent: false },
         functions: false,
         with: None,
         wrong: Wrong::None,
@@ -41,6 +42,7 @@ fn options(mut words: impl Iterator<Item = String>) -> Option<Options> {
     while let Some(word) = words.next() {
         match word.as_str() {
             "--functions" => o.functions = true,
+            "--lent" => o.runs.is_lent = true,
             "--runs" => o.runs.count = words.next()?.parse().ok()?,
             "--seed" => o.runs.seed = words.next()?.parse().ok()?,
             "--block" => {

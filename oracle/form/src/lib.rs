@@ -6,7 +6,7 @@ mod runs;
 
 pub use lines::{checksum, push_number, push_numbers, Answer, Hand, Line};
 pub use pack::pack;
-pub use runs::{Bad, Call, Item, Opening, Reader, Writer, BLOCK_LIMIT, FUNCTION_NUMBERS, LIST_LIMIT};
+pub use runs::{Bad, Call, Item, Opening, Reader, Writer, BLOCK_LIMIT, FUNCTION_NUMBERS, LENT_RUN, LIST_LIMIT};
 
 /// The kinds of calls, by their numbers.
 pub mod kind {

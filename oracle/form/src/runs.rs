@@ -13,6 +13,8 @@ pub const BLOCK_LIMIT: u64 = 524_288;
 
 const RUN: u64 = 1;
 const QUESTION: u64 = 2;
+/// The mark of a run whose calls are made on a record that is lent. Its lines are the same.
+pub const LENT_RUN: u64 = 3;
 
 /// Opening's values in the paper's order, with the length of the block that is lent.
 #[derive(Clone, Copy, Debug, Default)]
@@ -119,7 +121,7 @@ impl<R: Read> Reader<R> {
             return Err(Bad);
         }
         match u64::from(first[0]) {
-            RUN => Ok(Some(Item::Run(self.opening()?))),
+            RUN | LENT_RUN => Ok(Some(Item::Run(self.opening()?))),
             QUESTION => {
                 let mut q = [0; FUNCTION_NUMBERS];
                 for value in &mut q {

@@ -1,8 +1,8 @@
--- `player::run::make` is safe: no call that it makes asks for anything.
+-- `dispatch::make` is safe: no call that it makes asks for anything.
 -- Assumes nothing.
 use borrow.Author.Needs.{needs}
-use Rattle.player.proofs.run.make.Statement.{statement}
-use Rattle.player.proofs.run.make.Tie as tie
+use Rattle.dispatch.proofs.make.Statement.{statement}
+use Rattle.dispatch.proofs.make.Tie as tie
 
 pub make-spec : {M : Type 1} → statement M
 make-spec =
