@@ -1,5 +1,5 @@
-# The two commands of README.md, and the comparison with the Rust (docs/RUNS.md).
-.PHONY: run test compare
+# The two commands of README.md, the comparison with the Rust (docs/RUNS.md) and the benchmark (docs/PERFORMANCE.md).
+.PHONY: run test compare bench
 
 run:
 	@rt check counter
@@ -15,3 +15,6 @@ WITH =
 compare:
 	@rt check beside
 	@WITH='$(WITH)' tests/beside_rust $(RUNS) $(SEED)
+
+bench:
+	@tests/bench

@@ -1,0 +1,30 @@
+-- `bench::cycles` is safe and ends. The block keeps its length; the measure is how many cycles are left.
+-- Assumes nothing.
+use Prim.Native.Nat.{_-_}
+use mathlib.Core.Path.{_≡_}
+use lib.ListN.{length}
+use borrow.Author.Needs.{needs}
+use Rattle.bench.proofs.cycles.Statement.{statement}
+use Rattle.bench.proofs.cycles.Tie as tie
+
+abbrev Inv-loop : tie.InvT-loop
+Inv-loop is-lent addresses count block₀ stream₀ i₀ k₀ block stream i k =
+    length block ≡ length block₀
+
+abbrev μ-loop : tie.MeasureT-loop
+μ-loop is-lent addresses count block₀ stream₀ i₀ k₀ block stream i k = count - k
+
+pub cycles-spec : {M : Type 1} → statement M
+cycles-spec =
+    tie.close
+    (tie.spec
+    Inv-loop
+    μ-loop
+    (λ c. search needs)
+    (λ c κs. search needs)
+    (λ c κs. search needs)
+    (λ c. search needs)
+    (λ c. search needs)
+    (λ c. search needs)
+    (λ c. search needs)
+    (λ c. search needs))
