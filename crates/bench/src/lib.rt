@@ -1,15 +1,16 @@
 // The hot cycle, for the benchmark (docs/PERFORMANCE.md): reaped of the oldest slot, reaped Nothing, turn, commit_full, submitted
 // Accepted. A Rust program links it and takes the time. These functions promise that they are safe and end.
+use commit::commit_full;
 use layout::Setup;
 use layout::Underrun;
+use lent::local;
 use opening::open;
+use reaped::reaped;
 use stream::Reaping;
 use stream::Stream;
 use stream::Submission;
-use ways::commit_full;
-use ways::reaped;
-use ways::submitted;
-use ways::turn;
+use submitted::submitted;
+use turn::turn;
 
 fn setup(slots: usize, packets: usize, packet_bytes: usize, base: usize) -> Setup {
     Setup {
@@ -25,36 +26,41 @@ fn setup(slots: usize, packets: usize, packet_bytes: usize, base: usize) -> Setu
 }
 
 // One slot out: turn, commit_full, submitted.
-fn send(s: Stream, is_lent: bool, block: &mut [u8]) -> Stream {
-    let taken = turn(s, is_lent, block);
-    let filled = commit_full(taken.stream, is_lent, block);
-    let sent = submitted(filled.stream, is_lent, Submission::Accepted, block);
+fn send(s: Stream, block: &mut [u8]) -> Stream {
+    let taken = turn(s, block);
+    let filled = commit_full(taken.stream, block);
+    let sent = submitted(filled.stream, Submission::Accepted, block);
     sent.stream
 }
 
 // The slot at an address comes back, nothing more does, and one goes out.
-fn cycle(s: Stream, is_lent: bool, address: usize, block: &mut [u8]) -> Stream {
-    let noticed = reaped(s, is_lent, Reaping::Address(address), block);
-    let nothing = reaped(noticed.stream, is_lent, Reaping::Errno(11), block);
-    send(nothing.stream, is_lent, block)
+fn cycle(s: Stream, address: usize, block: &mut [u8]) -> Stream {
+    let noticed = reaped(s, Reaping::Address(address), block);
+    let nothing = reaped(noticed.stream, Reaping::Errno(11), block);
+    send(nothing.stream, block)
+}
+
+// The same on a record that is lent.
+fn send_lent(s: Stream, block: &mut [u8]) -> Stream {
+    let taken = local::turn(s, block);
+    let filled = local::commit_full(taken.stream, block);
+    let sent = local::submitted(filled.stream, Submission::Accepted, block);
+    sent.stream
+}
+
+fn cycle_lent(s: Stream, address: usize, block: &mut [u8]) -> Stream {
+    let noticed = local::reaped(s, Reaping::Address(address), block);
+    let nothing = local::reaped(noticed.stream, Reaping::Errno(11), block);
+    send_lent(nothing.stream, block)
 }
 
 // All slots out.
-fn full(s: Stream, is_lent: bool, slots: usize, block: &mut [u8]) -> Stream {
+fn full(s: Stream, slots: usize, block: &mut [u8]) -> Stream {
     let mut stream = s;
     for _ in 0..slots {
-        stream = send(stream, is_lent, block);
+        stream = send(stream, block);
     }
     stream
-}
-
-// One cycle, with the header's address in its place.
-fn cycle_at(s: Stream, is_lent: bool, addresses: &[usize], i: usize, block: &mut [u8]) -> Stream {
-    if i >= addresses.len() {
-        return s;
-    }
-    let address = addresses[i];
-    cycle(s, is_lent, address, block)
 }
 
 // The place after i, and the first after the last.
@@ -66,27 +72,39 @@ fn next(i: usize, places: usize) -> usize {
     }
 }
 
+// The address in its place; 0 where there is none.
+fn address_at(addresses: &[usize], i: usize) -> usize {
+    if i < addresses.len() { addresses[i] } else { 0 }
+}
+
 // That many cycles, over the headers' addresses in turn.
-fn cycles(s: Stream, is_lent: bool, addresses: &[usize], count: usize, block: &mut [u8]) -> Stream {
+fn cycles(s: Stream, addresses: &[usize], count: usize, block: &mut [u8]) -> Stream {
     let mut stream = s;
     let mut i = 0;
     for _ in 0..count {
-        stream = cycle_at(stream, is_lent, addresses, i, block);
+        stream = cycle(stream, address_at(addresses, i), block);
         i = next(i, addresses.len());
     }
     stream
 }
 
-// Opens a ring, sends all slots, and makes the cycles. How many slots came back.
-fn bench(setup: Setup, is_lent: bool, addresses: &[usize], count: usize, block: &mut [u8]) -> u64 {
-    let reply = open(setup, block);
-    let out = full(reply.stream, is_lent, setup.slots, block);
-    let done = cycles(out, is_lent, addresses, count, block);
-    let stats = done.stats;
+fn cycles_lent(s: Stream, addresses: &[usize], count: usize, block: &mut [u8]) -> Stream {
+    let mut stream = s;
+    let mut i = 0;
+    for _ in 0..count {
+        stream = cycle_lent(stream, address_at(addresses, i), block);
+        i = next(i, addresses.len());
+    }
+    stream
+}
+
+// How many slots came back.
+fn came_back(s: Stream) -> u64 {
+    let stats = s.stats;
     stats.urbs_completed
 }
 
-// By value.
+// Opens a ring, sends all slots, and makes the cycles by value. How many slots came back.
 #[no_mangle]
 pub extern "C" fn usbfs_iso_cycles(
     packets: usize,
@@ -96,11 +114,13 @@ pub extern "C" fn usbfs_iso_cycles(
     count: usize,
     block: &mut [u8],
 ) -> u64 {
-    let values = setup(addresses.len(), packets, packet_bytes, base);
-    bench(values, false, addresses, count, block)
+    let slots = addresses.len();
+    let reply = open(setup(slots, packets, packet_bytes, base), block);
+    let out = full(reply.stream, slots, block);
+    came_back(cycles(out, addresses, count, block))
 }
 
-// On a record that is lent.
+// The same on a record that is lent.
 #[no_mangle]
 pub extern "C" fn usbfs_iso_lent_cycles(
     packets: usize,
@@ -110,6 +130,8 @@ pub extern "C" fn usbfs_iso_lent_cycles(
     count: usize,
     block: &mut [u8],
 ) -> u64 {
-    let values = setup(addresses.len(), packets, packet_bytes, base);
-    bench(values, true, addresses, count, block)
+    let slots = addresses.len();
+    let reply = open(setup(slots, packets, packet_bytes, base), block);
+    let out = full(reply.stream, slots, block);
+    came_back(cycles_lent(out, addresses, count, block))
 }

@@ -8,11 +8,11 @@ use Rattle.bench.proofs.cycles.Statement.{statement}
 use Rattle.bench.proofs.cycles.Tie as tie
 
 abbrev Inv-loop : tie.InvT-loop
-Inv-loop is-lent addresses count block₀ stream₀ i₀ k₀ block stream i k =
+Inv-loop addresses count block₀ stream₀ i₀ k₀ block stream i k =
     length block ≡ length block₀
 
 abbrev μ-loop : tie.MeasureT-loop
-μ-loop is-lent addresses count block₀ stream₀ i₀ k₀ block stream i k = count - k
+μ-loop addresses count block₀ stream₀ i₀ k₀ block stream i k = count - k
 
 pub cycles-spec : {M : Type 1} → statement M
 cycles-spec =
@@ -21,6 +21,7 @@ cycles-spec =
     Inv-loop
     μ-loop
     (λ c. search needs)
+    (λ c κs. search needs)
     (λ c κs. search needs)
     (λ c κs. search needs)
     (λ c. search needs)

@@ -8,11 +8,11 @@ use Rattle.bench.proofs.full.Statement.{statement}
 use Rattle.bench.proofs.full.Tie as tie
 
 abbrev Inv-loop : tie.InvT-loop
-Inv-loop is-lent slots block₀ stream₀ k₀ block stream k =
+Inv-loop slots block₀ stream₀ k₀ block stream k =
     length block ≡ length block₀
 
 abbrev μ-loop : tie.MeasureT-loop
-μ-loop is-lent slots block₀ stream₀ k₀ block stream k = slots - k
+μ-loop slots block₀ stream₀ k₀ block stream k = slots - k
 
 pub full-spec : {M : Type 1} → statement M
 full-spec =
