@@ -10,6 +10,7 @@ use question::question;
 use screen::heading;
 use text::bytes;
 use text::flush;
+use text::flush_half;
 
 // Whether there is more to read, and where reading and printing stand.
 struct Played {
@@ -51,7 +52,7 @@ fn item(
     }
 }
 
-// The next item, if the input doesn't end before it.
+// The next item, if the input doesn't end before it. Half of the output is free for its first line.
 fn next(
     input: &mut [u8],
     out: &mut [u8],
@@ -60,7 +61,7 @@ fn next(
     from: Stand,
 ) -> Played {
     let cursor = refill(input, from.cursor);
-    let at = from.at;
+    let at = flush_half(out, from.at);
     let mode = from.mode;
     let stand = Stand { cursor, at, mode };
     if cursor.at >= cursor.end {
