@@ -1,8 +1,11 @@
-//! Links target/staticlib/libbench.a, the proved cycle.
+//! Links target/staticlib/libbench.a and libbench_lent.a, the proved cycles. Each is a library of its own, so that each call stands
+//! in one place of it, as in a host.
 
 fn main() {
     let root = std::env::var("CARGO_MANIFEST_DIR").expect("cargo sets it");
     println!("cargo:rustc-link-search=native={root}/../../target/staticlib");
-    println!("cargo:rustc-link-lib=static=bench");
-    println!("cargo:rerun-if-changed={root}/../../target/staticlib/libbench.a");
+    for library in ["bench", "bench_lent"] {
+        println!("cargo:rustc-link-lib=static={library}");
+        println!("cargo:rerun-if-changed={root}/../../target/staticlib/lib{library}.a");
+    }
 }

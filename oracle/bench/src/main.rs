@@ -16,7 +16,7 @@ const BYTES: usize = 192;
 const GOES: usize = 7;
 
 extern "C" {
-    fn usbfs_iso_cycles(p: usize, b: usize, base: usize, at: *const usize, n: usize, count: usize, block: *mut u8, len: usize)
+    fn usbfs_iso_cycles(p: usize, b: usize, base: usize, at: *const usize, n: usize, rounds: usize, block: *mut u8, len: usize)
         -> u64;
     fn usbfs_iso_lent_cycles(
         p: usize,
@@ -24,7 +24,7 @@ extern "C" {
         base: usize,
         at: *const usize,
         n: usize,
-        count: usize,
+        rounds: usize,
         block: *mut u8,
         len: usize,
     ) -> u64;
@@ -73,9 +73,11 @@ impl Ring {
         let at = self.at();
         let base = at as usize;
         let addresses: Vec<usize> = (0..self.n).map(|i| base + i * self.stride).collect();
+        // The first n rounds send each slot for the first time.
+        let rounds = self.n + count;
         let start = nanoseconds();
         // SAFETY: the addresses and the block are live, and the block has that length.
-        let done = unsafe { cycles(self.p, self.b, base, addresses.as_ptr(), self.n, count, at, self.len) };
+        let done = unsafe { cycles(self.p, self.b, base, addresses.as_ptr(), self.n, rounds, at, self.len) };
         let took = nanoseconds() - start;
         assert_eq!(done, count as u64);
         took
