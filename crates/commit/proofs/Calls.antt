@@ -19,9 +19,10 @@ use Rattle.stream.specs.Sound.{sound, gateOf}
 use Rattle.ledger.specs.Ledger.{Ledger}
 use Rattle.ledger.specs.Step.{Next, refused, onBlock, onHeld}
 use Rattle.ledger.specs.Record.{view, call}
+use Rattle.ledger.specs.Gives.{Gives}
 use Rattle.ledger.proofs.Calls.{Told, call-moved, call-refused, gate-opened, gate-refused, on-block}
 use Rattle.commit.specs.declared.hand.InHand.{InHand}
-use Rattle.commit.specs.Held.{slotOf, past, slotInHand, Follows}
+use Rattle.commit.specs.Held.{slotOf, past, slotInHand}
 
 -- what the three commits have in common: a rule for the slot in hand, behind 6 and 9
 abbrev pub onSlot : (Setup → ℕ → Ledger → List ℕ → Next) → Setup → Ledger → List ℕ → Next
@@ -48,13 +49,13 @@ on-held h i next wrong e = rw e
 
 module _ (f : Setup → ℕ → Ledger → List ℕ → Next) (s : Stream) (block : List ℕ) where
   -- the slot's own rule goes on
-  pub slot-told : (i : ℕ) → slotInHand s (length block) ≡ InHand.Slot i → (r : Reply) (lent : List ℕ) → Follows s (f (s .setup) i (view s) block) r lent → Told (call (onSlot f) s block) (r .stream) (r .answer) lent
+  pub slot-told : (i : ℕ) → slotInHand s (length block) ≡ InHand.Slot i → (r : Reply) (lent : List ℕ) → Gives s (f (s .setup) i (view s) block) r lent → Told (call (onSlot f) s block) (r .stream) (r .answer) lent
   unfolding view
   slot-told i p r lent done =
       let known = slot-held s (length block) i p in
       let rule = on-block (s .setup) (view s) block _ (known .2) ∙ on-held (s .hand) i _ _ (known .1) in
-      let t = call-moved (onSlot f) s block (known .0) (f (s .setup) i (view s) block) rule (r .stream) (done .1) in
-      (done .0 ∙ t .0, t .1, done .2 ∙ t .2)
+      let t = call-moved (onSlot f) s block (known .0) (f (s .setup) i (view s) block) rule (r .stream) (done .stream) in
+      (done .answer ∙ t .0, t .1, done .block ∙ t .2)
 
   module _ (wide : Wide (s .ring)) (e : Error) where
     wrong-hand : (h : Hand) → gateOf s (length block) ≡ Gate.Open → s .hand ≡ h → ((next : ℕ → Next) (wrong : Next) → onHeld h next wrong ≡ wrong) → Error.WrongHand ≡ e → Told (call (onSlot f) s block) s (Answer.Refused e) block

@@ -8,25 +8,26 @@ use lib.ListN.{length}
 use borrow.Author.Tests.{lt-ltb, le-ltb, eq-eqb, ne-eqb}
 use Rattle.error.specs.declared.Error.{Error}
 use Rattle.layout.specs.declared.Setup.{Setup}
+use Rattle.layout.specs.Layout.{anyAbove}
 use Rattle.ring.specs.declared.Hand.{Hand}
 use Rattle.stream.specs.declared.Answer.{Answer}
 use Rattle.stream.specs.declared.Reply.{Reply}
 use Rattle.stream.specs.declared.Stream.{Stream}
 use Rattle.ledger.specs.Block.{shares, capacityOf, committed}
-use Rattle.ledger.specs.Commit.{send, commitHeld, anyAbove, packetsHeld}
+use Rattle.ledger.specs.Commit.{send, commitHeld, packetsHeld}
 use Rattle.ledger.specs.Ledger.{Ledger, withHand, returned}
 use Rattle.ledger.specs.Record.{view, stored}
 use Rattle.ledger.specs.Step.{Next, putBack}
-use Rattle.commit.specs.Held.{Follows}
+use Rattle.ledger.specs.Gives.{Gives}
 
 module _ (s : Stream) (i : ℕ) (next : Next) (r : Reply) (block : List ℕ) where
-  pub ends-back : (e : Error) → next ≡ putBack i (Answer.Refused e) (view s) block → (r .answer ≡ Answer.Refused e) × (r .stream ≡ stored s (withHand Hand.Idle (returned i (view s)))) → Follows s next r block
+  pub ends-back : (e : Error) → next ≡ putBack i (Answer.Refused e) (view s) block → (r .answer ≡ Answer.Refused e) × (r .stream ≡ stored s (withHand Hand.Idle (returned i (view s)))) → Gives s next r block
   unfolding putBack
-  ends-back e rule done = rw rule (done .0, done .1, refl)
+  ends-back e rule done = rw rule (record { answer = done .0; stream = done .1; block = refl })
 
-  pub ends-sent : (lengths lent : List ℕ) → next ≡ send (s .setup) i lengths (view s) block → (r .answer ≡ Answer.Submit i) × (r .stream ≡ stored s (withHand (Hand.Sending i) (view s))) → lent ≡ committed (s .setup) i lengths block → Follows s next r lent
+  pub ends-sent : (lengths lent : List ℕ) → next ≡ send (s .setup) i lengths (view s) block → (r .answer ≡ Answer.Submit i) × (r .stream ≡ stored s (withHand (Hand.Sending i) (view s))) → lent ≡ committed (s .setup) i lengths block → Gives s next r lent
   unfolding send
-  ends-sent lengths lent rule done written = rw rule (done .0, done .1, written)
+  ends-sent lengths lent rule done written = rw rule (record { answer = done .0; stream = done .1; block = written })
 
 module _ (s : Setup) (i : ℕ) (l : Ledger) (block : List ℕ) where
   module _ (bytes : ℕ) where

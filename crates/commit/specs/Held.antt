@@ -1,15 +1,10 @@
--- The parts of a commit: the tests that come first, and what its reply owes to the rule for the slot in hand.
+-- The tests that a commit makes first. Only internal functions promise these.
 use Prim.Native.Nat.{ℕ}
-use mathlib.Core.Path.{_≡_}
-use mathlib.Core.List.{List}
 use Rattle.error.specs.declared.Error.{Error}
 use Rattle.ring.specs.declared.Hand.{Hand}
 use Rattle.stream.specs.declared.Gate.{Gate}
-use Rattle.stream.specs.declared.Reply.{Reply}
 use Rattle.stream.specs.declared.Stream.{Stream}
 use Rattle.stream.specs.Sound.{gateOf}
-use Rattle.ledger.specs.Step.{Next}
-use Rattle.ledger.specs.Record.{stored}
 use Rattle.commit.specs.declared.hand.InHand.{InHand}
 
 -- The slot of a hand that is Held, else 9.
@@ -27,7 +22,3 @@ past (Gate.Refused e) next = InHand.Refused e
 -- 8, then 6 for a block of the wrong length, then 9.
 unfoldable pub slotInHand : Stream → ℕ → InHand
 slotInHand s len = past (gateOf s len) (slotOf (s .hand))
-
--- A reply and the block as a rule has them: its answer, the record that shows its ledger, its block.
-abbrev pub Follows : Stream → Next → Reply → List ℕ → Type 0
-Follows s next r block = (r .answer ≡ next .answer) × (r .stream ≡ stored s (next .ledger)) × (block ≡ next .lent)

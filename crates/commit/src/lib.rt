@@ -22,7 +22,7 @@ ghost use Rattle.stream.specs.Sound.{sound};
 ghost use Rattle.ledger.specs.Block.{capacityOf};
 ghost use Rattle.ledger.specs.Commit.{commitHeld, commit as commitRule, commitFull, packetsHeld, commitPackets};
 ghost use Rattle.ledger.specs.Record.{view, call};
-ghost use Rattle.commit.specs.Held.{Follows};
+ghost use Rattle.ledger.specs.Gives.{Gives};
 
 // Internal: the most bytes that a slot holds.
 fn slot_capacity(setup: Setup) -> usize
@@ -36,7 +36,7 @@ fn slot_capacity(setup: Setup) -> usize
 // Internal: commits slot i, which the hand holds. Refusal 10.
 fn commit_held(s: Stream, i: usize, bytes: usize, block: &mut [u8]) -> Reply
     requires { ⌜ (sound s ≡ true) × (s .hand ≡ Hand.Held i) × (length (now block) ≡ totalOf (s .setup)) ⌝ }
-    ensures { λ r. ⌜ Follows s (commitHeld (s .setup) bytes i (view s) (now (block .entry))) r (now (block .exit)) ⌝ }
+    ensures { λ r. ⌜ Gives s (commitHeld (s .setup) bytes i (view s) (now (block .entry))) r (now (block .exit)) ⌝ }
 {
     let setup = s.setup;
     let capacity = slot_capacity(setup);
@@ -50,7 +50,7 @@ fn commit_held(s: Stream, i: usize, bytes: usize, block: &mut [u8]) -> Reply
 // Internal: commits slot i, which the hand holds, packet by packet. Refusals 11, then 12.
 fn packets_held(s: Stream, i: usize, lengths: &[usize], block: &mut [u8]) -> Reply
     requires { ⌜ (sound s ≡ true) × (s .hand ≡ Hand.Held i) × (length (now block) ≡ totalOf (s .setup)) ⌝ }
-    ensures { λ r. ⌜ Follows s (packetsHeld (s .setup) (now (lengths .entry)) i (view s) (now (block .entry))) r (now (block .exit)) ⌝ }
+    ensures { λ r. ⌜ Gives s (packetsHeld (s .setup) (now (lengths .entry)) i (view s) (now (block .entry))) r (now (block .exit)) ⌝ }
 {
     let setup = s.setup;
     if lengths.len() != setup.packets_per_urb {

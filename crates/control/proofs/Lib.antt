@@ -1,4 +1,3 @@
-pub mod Arrays
 pub mod Replies
 pub mod Idle
 pub mod Unmoved

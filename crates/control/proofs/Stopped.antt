@@ -23,6 +23,7 @@ use Rattle.ledger.specs.Ledger.{Ledger, Mark, home, out, discarded, withFlags, 
 use Rattle.ledger.specs.Control.{discardAll, stopIdle, stop}
 use Rattle.ledger.specs.Record.{view, ringFor, stored, call}
 use Rattle.ledger.proofs.Calls.{Told, call-moved, call-refused}
+use Rattle.ledger.proofs.KeptControl.{outs-discarded}
 use Rattle.ledger.proofs.View.{facts, view-state, view-outs, stored-states, ring-path}
 use Rattle.control.specs.Scan.{scanned}
 use Rattle.control.specs.declared.scan.Scan.{Scan}
@@ -40,14 +41,6 @@ mark-stopped false (discarded ∷ ms) zero = refl
 mark-stopped false (home ∷ ms) (suc i) = mark-stopped false ms i
 mark-stopped false (out ∷ ms) (suc i) = mark-stopped false ms i
 mark-stopped false (discarded ∷ ms) (suc i) = mark-stopped false ms i
-
--- a slot that is Discarding is still out
-outs-stopped : (ms : List Mark) → outs (discardAll ms) ≡ outs ms
-unfolding outs discardAll
-outs-stopped [] = refl
-outs-stopped (home ∷ ms) = outs-stopped ms
-outs-stopped (out ∷ ms) = ap suc (outs-stopped ms)
-outs-stopped (discarded ∷ ms) = ap suc (outs-stopped ms)
 
 -- the ledger after stop
 after : Stream → Ledger
@@ -73,7 +66,7 @@ module _ (s : Stream) (ok : sound s ≡ true) (wide : Wide (s .ring)) (t : Scan)
       (λ j h. ap (λ (x : SlotState). record { state = x }) (seen .above j h)))
       (ap (λ (r : Ring). r .free) kept ∙ sym (seen .places))
       (ap (λ (r : Ring). r .«free_len») kept ∙ sym (seen .queued))
-      (outs-stopped (view s .marks) ∙ view-outs s ok wide ∙ sym (seen .outs))
+      (outs-discarded (view s .marks) ∙ view-outs s ok wide ∙ sym (seen .outs))
 
   module _ (idle : s .hand ≡ Hand.Idle) (list : List ℕ) where
     -- a list with fewer places

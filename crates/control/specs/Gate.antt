@@ -1,4 +1,4 @@
--- What start, stop and finish test first.
+-- What start, stop and finish test first. Only an internal function promises it.
 use mathlib.Core.Bool.{cond}
 use Rattle.error.specs.declared.Error.{Error}
 use Rattle.ring.specs.declared.Hand.{Hand}

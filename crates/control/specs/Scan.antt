@@ -1,4 +1,4 @@
--- stop's walk over the slots.
+-- stop's walk over the slots. Only internal functions promise these.
 use Prim.Native.Nat.{ℕ, zero, suc, _+_}
 use mathlib.Core.Bool.{Bool, true, false}
 use lib.ListN.{set, replicate}

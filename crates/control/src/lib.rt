@@ -91,7 +91,7 @@ pub fn give_back(s: Stream) -> Reply
     }
 }
 
-// A first start turns armed off, whatever was sent before it; a second one has no effect.
+// If not started: started, and armed off, whatever was sent before. Else no effect.
 pub fn start(s: Stream) -> Reply
     ensures { λ r. ⌜ (r .answer ≡ call startRule s [] .answer) × (r .stream ≡ call startRule s [] .stream) ⌝ }
 {

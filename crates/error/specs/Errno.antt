@@ -1,5 +1,5 @@
--- What a kernel's errno means: 13 for 19 or 108 (ENODEV, ESHUTDOWN); 14 for 12 (ENOMEM) of a submission, with its bytes; 15 for 13 or 1
--- (EACCES, EPERM); 16 for 25 (ENOTTY); 17 otherwise, with the errno.
+-- What a kernel's errno means: 13 for 19 or 108 (ENODEV, ESHUTDOWN); 14 for 12 (ENOMEM) of a submission, with n × p × b,
+-- which the caller gives; 15 for 13 or 1 (EACCES, EPERM); 16 for 25 (ENOTTY); 17 otherwise, with the errno, 12 of another call among these.
 use Prim.Native.Nat.{ℕ}
 use mathlib.Core.Bool.{cond, _||_}
 use lib.Dec.{eqb}

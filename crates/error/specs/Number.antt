@@ -1,4 +1,4 @@
--- The paper's number of each refusal.
+-- The paper's number of each refusal, and the value that comes with it.
 use Prim.Native.Nat.{ℕ}
 use Rattle.error.specs.declared.Error.{Error}
 use Rattle.error.specs.declared.Error.the-variants.{TooFewSlots, ZeroSize, TooManyPackets, LayoutOverflow, TooLarge, BlockLength, BaseAddress, Unsound, WrongHand, CommitTooLong, PacketCount, PacketTooLong, Disconnected, UsbfsMemory, PermissionDenied, Unsupported, Io, StrayNotice, Underrun, ListTooShort, UnsupportedSpeed, InvalidInterval, ZeroPacketBytes, ZeroPackets, ProductOverflow, NotIsochronous, IntervalUnknown, PacketSizeUnknown, PacketBytesTooLarge, InvalidEndpoint}
@@ -34,3 +34,36 @@ numberOf IntervalUnknown = 27
 numberOf PacketSizeUnknown = 28
 numberOf PacketBytesTooLarge = 29
 numberOf InvalidEndpoint = 30
+
+-- 14 comes with n × p × b, 17 with the errno, 19 with the count; the others have no value, which is 0 here.
+abbrev pub valueOf : Error → ℕ
+valueOf TooFewSlots = 0
+valueOf ZeroSize = 0
+valueOf TooManyPackets = 0
+valueOf LayoutOverflow = 0
+valueOf TooLarge = 0
+valueOf BlockLength = 0
+valueOf BaseAddress = 0
+valueOf Unsound = 0
+valueOf WrongHand = 0
+valueOf CommitTooLong = 0
+valueOf PacketCount = 0
+valueOf PacketTooLong = 0
+valueOf Disconnected = 0
+valueOf (UsbfsMemory bytes) = bytes
+valueOf PermissionDenied = 0
+valueOf Unsupported = 0
+valueOf (Io errno) = errno
+valueOf StrayNotice = 0
+valueOf (Underrun count) = count
+valueOf ListTooShort = 0
+valueOf UnsupportedSpeed = 0
+valueOf InvalidInterval = 0
+valueOf ZeroPacketBytes = 0
+valueOf ZeroPackets = 0
+valueOf ProductOverflow = 0
+valueOf NotIsochronous = 0
+valueOf IntervalUnknown = 0
+valueOf PacketSizeUnknown = 0
+valueOf PacketBytesTooLarge = 0
+valueOf InvalidEndpoint = 0

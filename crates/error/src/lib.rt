@@ -1,7 +1,7 @@
 // The refusals of the port, one case for each number of the paper, with the values that it carries.
 // Names are those of the Rust's error.rs where it has the case.
 ghost use mathlib.Core.Path.{_≡_};
-ghost use Rattle.error.specs.Number.{numberOf};
+ghost use Rattle.error.specs.Number.{numberOf, valueOf};
 ghost use Rattle.error.specs.Errno.{fromErrno};
 
 pub enum Error {
@@ -106,6 +106,19 @@ impl Error {
             Error::PacketSizeUnknown => 28,
             Error::PacketBytesTooLarge => 29,
             Error::InvalidEndpoint => 30,
+        }
+    }
+
+    // The value that comes with the refusal's number: 14 the ring's payload bytes, 17 the errno, 19 the count of underruns; 0 with
+    // the others.
+    pub fn value(self) -> u64
+        ensures { λ r. ⌜ r ≡ valueOf self ⌝ }
+    {
+        match self {
+            Error::UsbfsMemory(bytes) => bytes,
+            Error::Io(errno) => errno as u64,
+            Error::Underrun(count) => count,
+            _ => 0,
         }
     }
 }

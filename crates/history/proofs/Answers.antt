@@ -21,6 +21,7 @@ use Rattle.stream.specs.declared.Reaping.{Reaping}
 use Rattle.stream.specs.declared.Submission.{Submission}
 use Rattle.ledger.specs.Block.{cookieOf}
 use Rattle.ledger.specs.Reaped.{slotAt, slotOfUrb}
+use Rattle.ledger.proofs.Found.{found-past, found-at}
 use Rattle.history.specs.History.{Call, submitted, reaped, giveBack}
 use Rattle.history.specs.Words.{Entry, said, asked, nothingAsked, given, lastSubmit, sixOrNine, acceptance, slotAtAddress, slotAddressed, notice, fromHand}
 use Rattle.history.proofs.Entries.{Says}
@@ -162,14 +163,6 @@ says-stray s address block log =
     record { acc-is = refl; ntc-is = refl; nam-is = refl; sub-is = refl; back-is = refl; stp-is = refl }
 
 -- the slot that an address names is the slot at that address
-named-slot : (b : Bool) (f : Found) (i : ℕ) → cond b Found.Nothing f ≡ Found.Slot i → f ≡ Found.Slot i
-named-slot true f i p = let z : _≡_ {A = ℕ} 0 1 = cc in absurd (omega arith)
-named-slot false f i p = p
-
-found-slot : (b : Bool) (j i : ℕ) → cond b (Found.Slot j) Found.Nothing ≡ Found.Slot i → j ≡ i
-found-slot true j i p = cc p
-found-slot false j i p = let z : _≡_ {A = ℕ} 0 1 = cc in absurd (omega arith)
-
 pub slot-addressed : (s : Setup) (address : ℕ) (block : List ℕ) (i : ℕ) → slotOfUrb s address block ≡ Found.Slot i → slotAtAddress s address ≡ i
 unfolding slotOfUrb slotAt slotAtAddress
 slot-addressed s address block i p =
@@ -177,6 +170,6 @@ slot-addressed s address block i p =
     let at = maskedOf (s .tagged) address in
     let stride = layoutFor s .«slot_stride» in
     let j = (at - base) / stride in
-    found-slot (eqb (cookieOf s j block) j) j i
-    (named-slot (not (eqb ((at - base) % stride) 0)) _ i
-    (named-slot (leb (s .slots * stride) (at - base)) _ i (named-slot (ltb at base) _ i p)))
+    found-at (eqb (cookieOf s j block) j) j i
+    (found-past (not (eqb ((at - base) % stride) 0)) _ i
+    (found-past (leb (s .slots * stride) (at - base)) _ i (found-past (ltb at base) _ i p .1) .1) .1)

@@ -4,7 +4,7 @@ use mathlib.Core.Path.{_≡_, refl, sym, ap, subst, _∙_}
 use mathlib.Core.Bool.{Bool, true, false, cond, not, _&&_, false≢true}
 use mathlib.Core.List.{List, [], _∷_, _++_}
 use mathlib.Core.Option.{Option, none, some}
-use Prim.Native.Nat.{ℕ, suc, _+_, _<_}
+use Prim.Native.Nat.{ℕ, _+_, _<_}
 use native.Mathlib.Omega.{arith}
 use lib.Dec.{eqb}
 use lib.ListN.{length, getD, set}
@@ -18,6 +18,7 @@ use Rattle.stream.specs.declared.Answer.{Answer}
 use Rattle.ledger.specs.Ledger.{Mark, home, out, discarded, outs}
 use Rattle.ledger.specs.Control.{discardAll}
 use Rattle.ledger.proofs.Rings.{away, outs-set}
+use Rattle.ledger.proofs.KeptControl.{outs-discarded}
 use Rattle.history.specs.Words.{Entry, said, asked, sixOrNine, orElse, given, isSlot, lastSubmit, lastNamed, acceptance, notice, isOut, neverLeft}
 use Rattle.history.specs.Demand3.{InOrder}
 use Rattle.history.proofs.Entries.{Says, never-next, return-next}
@@ -121,13 +122,6 @@ outs-accepted marks i h e = omega (arith, outs-set marks i out h, ap away e)
 outs-noticed : (marks : List Mark) (i : ℕ) → i < length marks → away (getD marks i home) ≡ 1 → outs (set marks i home) + 1 ≡ outs marks
 unfolding away
 outs-noticed marks i h e = omega (arith, outs-set marks i home h)
-
-outs-discarded : (marks : List Mark) → outs (discardAll marks) ≡ outs marks
-unfolding outs discardAll
-outs-discarded [] = refl
-outs-discarded (home ∷ marks) = outs-discarded marks
-outs-discarded (out ∷ marks) = ap suc (outs-discarded marks)
-outs-discarded (discarded ∷ marks) = ap suc (outs-discarded marks)
 
 away-gone : (m : Mark) → away m ≡ 1 → gone m ≡ true
 unfolding away gone

@@ -12,7 +12,7 @@ use borrow.Author.Tests.{eq-eqb, ne-eqb}
 use Rattle.layout.specs.declared.Setup.{Setup}
 use Rattle.ledger.specs.Ledger.{Mark, home, out, discarded}
 use Rattle.ledger.specs.Control.{discardAll}
-use Rattle.ledger.proofs.Kept.{stopped, discard-at}
+use Rattle.ledger.proofs.KeptControl.{stopped, discard-at}
 use Rattle.history.specs.Words.{Entry, isSlot, isOut, afterDiscard}
 use Rattle.history.proofs.Entries.{Says, out-next, discard-next}
 

@@ -25,7 +25,7 @@ use Rattle.ledger.specs.Reaped as Reaped
 use Rattle.ledger.proofs.Valid.{Valid}
 use Rattle.ledger.proofs.Moves.{away-not-free}
 use Rattle.ledger.proofs.Rings.{away}
-use Rattle.ledger.proofs.Kept.{away-below}
+use Rattle.ledger.proofs.KeptReplies.{away-below}
 use Rattle.history.specs.History.{reaped, lentTo}
 use Rattle.history.specs.Words.{Entry, asked, slotAtAddress, afterDiscard}
 use Rattle.history.proofs.Entries.{Says}

@@ -17,6 +17,9 @@ use Rattle.ledger.specs.Block.{capacityOf}
 use Rattle.ledger.specs.Record.{view, stored, Outcome, call}
 use Rattle.ledger.proofs.Valid.{Valid, sound-valid, stored-wide, stored-sound, view-stored}
 use Rattle.ledger.proofs.Kept as Kept
+use Rattle.ledger.proofs.KeptReplies as Replies
+use Rattle.ledger.proofs.KeptControl as Control
+use Rattle.ledger.proofs.Calls.{stored-setup}
 use Rattle.history.specs.History.{Call, turn, commit, commitFull as commitFullCall, commitPackets, submitted, reaped, giveBack, start, stop, finish, rule, lentTo, stepOf, made, ledgerAfter, recordAfter}
 
 -- every call keeps a ledger valid
@@ -26,16 +29,12 @@ step-valid n s (turn block) l v = Kept.turn-valid n s l _ v
 step-valid n s (commit bytes block) l v = Kept.commit-valid n bytes s l _ v
 step-valid n s (commitFullCall block) l v = Kept.commit-valid n (capacityOf s) s l _ v
 step-valid n s (commitPackets lengths block) l v = Kept.packets-valid n lengths s l _ v
-step-valid n s (submitted reply block) l v = Kept.submitted-valid n reply s l _ v
-step-valid n s (reaped reply block) l v = Kept.reaped-valid n reply s l _ v
-step-valid n s giveBack l v = Kept.give-back-valid n s l _ v
-step-valid n s start l v = Kept.start-valid n s l _ v
-step-valid n s (stop list) l v = Kept.stop-valid n s l _ v
-step-valid n s finish l v = Kept.finish-valid n s l _ v
-
-stored-setup : (r : Stream) (l : Ledger) → stored r l .setup ≡ r .setup
-unfolding stored withState
-stored-setup r l = refl
+step-valid n s (submitted reply block) l v = Replies.submitted-valid n reply s l _ v
+step-valid n s (reaped reply block) l v = Replies.reaped-valid n reply s l _ v
+step-valid n s giveBack l v = Control.give-back-valid n s l _ v
+step-valid n s start l v = Control.start-valid n s l _ v
+step-valid n s (stop list) l v = Control.stop-valid n s l _ v
+step-valid n s finish l v = Control.finish-valid n s l _ v
 
 -- the record r keeps step with the ledger l
 pub record InStep (s : Setup) (r : Stream) (l : Ledger) : Type 0 where

@@ -8,6 +8,7 @@ use lib.Dec.{ltb, eqb}
 use lib.ListN.{length, drop}
 use Rattle.error.specs.declared.Error.{Error}
 use Rattle.layout.specs.declared.Setup.{Setup}
+use Rattle.layout.specs.Layout.{anyAbove}
 use Rattle.layout.specs.declared.Underrun.{Underrun}
 use Rattle.layout.specs.Opening.{totalOf}
 use Rattle.ring.specs.declared.Hand.{Hand}
@@ -17,7 +18,7 @@ use Rattle.ledger.specs.Ledger.{Ledger, withMarks, withFlags, withTotals, outs}
 use Rattle.ledger.specs.Block.{capacityOf, shares}
 use Rattle.ledger.specs.Step.{Next, refused, onBlock, onIdle, putBack}
 use Rattle.ledger.specs.Turn.{takeFront, silenceFront, drained, oneUnderrun, underrun, onUnderrun, turnIdle}
-use Rattle.ledger.specs.Commit.{send, commitHeld, anyAbove, packetsHeld}
+use Rattle.ledger.specs.Commit.{send, commitHeld, packetsHeld}
 use Rattle.ledger.specs.Control.{startedLedger, discardAll, inFlightFrom, stopIdle}
 use Rattle.ledger.specs.Turn as Turn
 use Rattle.ledger.specs.Commit as Commit

@@ -27,16 +27,17 @@ pub record Shows (s : Setup) (r : Stream) (l : Ledger) : Type 0 where
   pub armed : r .flags .armed ≡ l .armed
   pub counters : r .stats ≡ l .totals
 
--- Those of a list that pass a test.
+-- Those of a list that pass a test, in order.
 unfoldable pub those : (ℕ → Bool) → List ℕ → List ℕ
 those test [] = []
 those test (i ∷ rest) = cond (test i) (i ∷ those test rest) (those test rest)
 
--- Each number is smaller than all that follow it.
+-- Every number of a list is above j.
 unfoldable pub allAbove : ℕ → List ℕ → Bool
 allAbove j [] = true
 allAbove j (k ∷ rest) = ltb j k && allAbove j rest
 
+-- Each number is smaller than all that follow it.
 unfoldable pub ascending : List ℕ → Bool
 ascending [] = true
 ascending (k ∷ rest) = allAbove k rest && ascending rest
@@ -67,7 +68,7 @@ pub record Demand3 (s : Setup) (h : List Call) : Type 0 where
   pub shows : Shows s (recordAfter s h) (ledgerAfter s h)
   pub answers : (c : Call) → made c (recordAfter s h) .answer ≡ stepOf s c (ledgerAfter s h) .answer
   pub lent : (c : Call) → made c (recordAfter s h) .lent ≡ stepOf s c (ledgerAfter s h) .lent
-  -- A slot is out exactly when an acceptance of it was taken and no notice naming it since; it is in hand by the words too.
+  -- A slot is out exactly when an acceptance of it was taken and no notice naming it since. It is Filling exactly when it is in hand by the words.
   pub out : (i : ℕ) → i < s .slots → Slots.isOut (stateOf (recordAfter s h .ring) i) ≡ isOut s i (logOf s h)
   pub in-hand : (i : ℕ) → i < s .slots → Slots.isFilling (stateOf (recordAfter s h .ring) i) ≡ inHand s i (logOf s h)
   -- Every slot is exactly one of these: out, in hand, or once in the queue.

@@ -24,7 +24,8 @@ logOf s [] = []
 logOf s (c ∷ before) =
     record { call = c; answer = stepOf s c (ledgerAfter s before) .answer } ∷ logOf s before
 
--- What an answer says: the refusal's number or 0, the slot in a Submit, the slot in a Slot or Submit, whether it is Done (stop's or not), Completion.
+-- What an answer says. refusal: its number, or 0; submit: the slot in a Submit; named: the slot in a Slot or Submit; done: Done
+-- without a number; stopped: stop's Done, with how many; completion: Completion.
 pub record Said : Type 0 where
   pub refusal : ℕ
   pub submit : Option ℕ

@@ -58,15 +58,15 @@ sizes n p b =
     ∷ (ltb 128 p, TooManyPackets)
     ∷ []
 
--- One of the numbers is above the largest usize.
-unfoldable pub anyAbove : List ℕ → Bool
-anyAbove [] = false
-anyAbove (v ∷ vs) = ltb largest v || anyAbove vs
+-- One of the numbers is above `most`.
+unfoldable pub anyAbove : ℕ → List ℕ → Bool
+anyAbove most [] = false
+anyAbove most (v ∷ vs) = ltb most v || anyAbove most vs
 
 -- Refusal 4's test: any product, sum or raising above 2^64 - 1.
 unfoldable pub overflowing : ℕ → ℕ → ℕ → Bool
 overflowing n p b =
-    anyAbove
+    anyAbove largest
     ((12 * p)
     ∷ (56 + 12 * p)
     ∷ slotStride p

@@ -228,7 +228,7 @@ impl Setup {
     }
 
     // What opening answers for a block of that length: its layout, or the first of refusals 1, 2, 3, 5, 6, 7.
-    pub fn refusal(self, block_len: usize) -> Opens
+    pub fn opens(self, block_len: usize) -> Opens
         ensures { λ r. ⌜ r ≡ opens self «block_len» ⌝ }
     {
         match self.test_limits() {

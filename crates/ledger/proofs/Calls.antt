@@ -56,6 +56,11 @@ module _ (step : Setup → Ledger → List ℕ → Next) (s : Stream) (lent : Li
   unfolding refused
   call-refused ok wide e p = call-kept ok wide (Answer.Refused e) lent p
 
+-- opening's values are as they were
+pub stored-setup : (s : Stream) (l : Ledger) → stored s l .setup ≡ s .setup
+unfolding stored withState
+stored-setup s l = refl
+
 -- the gate of the calls that are lent a block
 pub gate-opened : (s : Stream) (len : ℕ) → gateOf s len ≡ Gate.Open → (sound s ≡ true) × (len ≡ totalOf (s .setup))
 unfolding gateOf

@@ -3,6 +3,9 @@ pub mod View
 pub mod Valid
 pub mod Moves
 pub mod Kept
+pub mod KeptReplies
+pub mod KeptControl
+pub mod Found
 pub mod Rings
 pub mod InHand
 pub mod Calls

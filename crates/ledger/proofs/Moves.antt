@@ -16,7 +16,7 @@ use Rattle.ring.specs.declared.SlotState.{SlotState}
 use Rattle.ring.specs.Slots.{isFree, one, holds, handWithin}
 use Rattle.ring.specs.Counts.{times, allBelow}
 use Rattle.ring.proofs.Counts.{times-append, times-same, times-other, below-append, below-one}
-use Rattle.ring.proofs.Truth.{first, second, refuted, one-at-most}
+use Rattle.ring.proofs.Truth.{first, second, refuted, one-at-most, is-one}
 use Rattle.ledger.specs.Ledger.{Ledger, Mark, home, out, discarded, withHand, withQueue, withMarks, marked, markOf, returned, slotState, stateIn}
 use Rattle.ledger.proofs.Valid.{Valid}
 
@@ -58,11 +58,6 @@ times-more j i rest h = rw (ne-eqb j i h) (omega arith)
 pub times-here : (i : ℕ) (rest : List ℕ) → times i (i ∷ rest) ≡ 1 + times i rest
 unfolding times one
 times-here i rest = rw (eq-eqb i i refl)
-
-one-true : (b : Bool) → 0 < one b → b ≡ true
-unfolding one
-one-true true h = refl
-one-true false h = absurd (omega arith)
 
 -- what a slot in hand, a Free one and one that is out add to the queue
 filling-none : (m : Mark) → one (isFree (slotState true m)) ≡ 0
@@ -113,7 +108,7 @@ module _ (n : ℕ) (l : Ledger) (v : Valid n l) where
 
     front-home : markOf l i ≡ home
     front-home =
-        let e : isFree (stateIn l i) ≡ true = one-true _ (omega (arith, front-times i (front-below .0), times-here i rest)) in
+        let e : isFree (stateIn l i) ≡ true = is-one _ (omega (arith, front-times i (front-below .0), times-here i rest)) in
         free-home false (markOf l i) (ap isFree (sym (unheld l i (unheld-all i))) ∙ e)
 
     gone : times i rest ≡ 0

@@ -22,7 +22,11 @@ unfoldable pub shares : ℕ → ℕ → ℕ → List ℕ
 shares zero b rest = []
 shares (suc p) b rest = min rest b ∷ shares p b (rest - b)
 
--- The capacity: p × b.
+-- The lengths that commit gives the packets of a slot for that many bytes.
+abbrev pub lengthsOf : Setup → ℕ → List ℕ
+lengthsOf s bytes = shares (s .«packets_per_urb») (s .«packet_bytes») bytes
+
+-- The capacity, p × b: the layout's slot_capacity.
 abbrev pub capacityOf : Setup → ℕ
 capacityOf s = s .«packets_per_urb» * s .«packet_bytes»
 
@@ -31,15 +35,19 @@ unfoldable pub descriptors : List ℕ → List ℕ
 descriptors [] = []
 descriptors (b ∷ rest) = descBytes (packetOf b) ++ descriptors rest
 
--- A commit of slot i with these packet lengths: status, buffer length = total, actual length and error count, then the descriptors.
+-- The header at an offset: buffer length = total; actual length, status, error count 0.
+unfoldable pub headed : ℕ → ℕ → List ℕ → List ℕ
+headed at total block =
+    store (at + errorCountAt) (le 4 0)
+    (store (at + actualLengthAt) (le 4 0)
+    (store (at + bufferLengthAt) (le 4 total)
+    (store (at + statusAt) (le 4 0) block)))
+
+-- A commit of slot i with these packet lengths: its header, then its descriptors.
 unfoldable pub committed : Setup → ℕ → List ℕ → List ℕ → List ℕ
 committed s i lengths block =
     let at = placesOf s i in
-    store (at .descs) (descriptors lengths)
-    (store (at .header + errorCountAt) (le 4 0)
-    (store (at .header + actualLengthAt) (le 4 0)
-    (store (at .header + bufferLengthAt) (le 4 (sum lengths))
-    (store (at .header + statusAt) (le 4 0) block))))
+    store (at .descs) (descriptors lengths) (headed (at .header) (sum lengths) block)
 
 -- Slot i's capacity filled with the silence byte.
 unfoldable pub silenced : Setup → ℕ → List ℕ → List ℕ

@@ -1,15 +1,16 @@
 -- commit, commit_full, commit_packets (Held).
 use Prim.Native.Nat.{ℕ}
-use mathlib.Core.Bool.{Bool, false, cond, not, _||_}
-use mathlib.Core.List.{List, [], _∷_}
+use mathlib.Core.Bool.{cond, not}
+use mathlib.Core.List.{List}
 use lib.Dec.{ltb, eqb}
 use lib.ListN.{length}
 use Rattle.error.specs.declared.Error.{Error}
 use Rattle.layout.specs.declared.Setup.{Setup}
+use Rattle.layout.specs.Layout.{anyAbove}
 use Rattle.ring.specs.declared.Hand.{Hand}
 use Rattle.stream.specs.declared.Answer.{Answer}
 use Rattle.ledger.specs.Ledger.{Ledger, withHand}
-use Rattle.ledger.specs.Block.{shares, capacityOf, committed}
+use Rattle.ledger.specs.Block.{lengthsOf, capacityOf, committed}
 use Rattle.ledger.specs.Step.{Next, refused, onBlock, onHeld, putBack}
 
 -- The lengths are written; hand Sending(i), answer Submit(i).
@@ -21,7 +22,7 @@ send s i lengths l block =
 unfoldable pub commitHeld : Setup → ℕ → ℕ → Ledger → List ℕ → Next
 commitHeld s bytes i l block =
     cond (ltb (capacityOf s) bytes) (putBack i (Answer.Refused Error.CommitTooLong) l block)
-    (send s i (shares (s .«packets_per_urb») (s .«packet_bytes») bytes) l block)
+    (send s i (lengthsOf s bytes) l block)
 
 unfoldable pub commit : ℕ → Setup → Ledger → List ℕ → Next
 commit bytes s l block = onBlock s l block (onHeld (l .hand) (λ i. commitHeld s bytes i l block) (refused Error.WrongHand l block))
@@ -29,11 +30,6 @@ commit bytes s l block = onBlock s l block (onHeld (l .hand) (λ i. commitHeld s
 -- commit_full is commit of the capacity.
 unfoldable pub commitFull : Setup → Ledger → List ℕ → Next
 commitFull s = commit (capacityOf s) s
-
--- A length above b.
-unfoldable pub anyAbove : ℕ → List ℕ → Bool
-anyAbove b [] = false
-anyAbove b (x ∷ xs) = ltb b x || anyAbove b xs
 
 -- commit_packets takes its list: 11 not p lengths, then 12 a length above b.
 unfoldable pub packetsHeld : Setup → List ℕ → ℕ → Ledger → List ℕ → Next

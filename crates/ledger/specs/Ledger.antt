@@ -10,7 +10,7 @@ use Rattle.stream.specs.declared.IsoStats.{IsoStats}
 use Rattle.stream.specs.Opened.{slotNumbers}
 use Rattle.stream.specs.Parts.{noStats}
 
--- Where a slot is, as to the kernel: home, out, or out with a discard mark.
+-- Whether a slot is out: home (no: in the queue or in hand), out, or out with a discard mark.
 pub data Mark : Type 0 where
   home out discarded : Mark
 

@@ -7,3 +7,4 @@ pub mod Submitted
 pub mod Reaped
 pub mod Control
 pub mod Record
+pub mod Gives

@@ -39,7 +39,7 @@ unfoldable pub isZero : ℤ → Bool
 isZero (pos n) = eqb n 0
 isZero (negsuc n) = false
 
--- Status -19 or -108: the device is gone.
+-- Status -19 or -108: the device is gone. negsuc n is -(n + 1).
 unfoldable pub isGone : ℤ → Bool
 isGone (pos n) = false
 isGone (negsuc n) = eqb n 18 || eqb n 107
@@ -62,7 +62,7 @@ oneCompleted c t =
       underruns = t .underruns;
     }
 
--- A slot's notice, by its mark. At home it is Free: 18, nothing differs. Else it is returned, answer Completion; if not
+-- A slot's notice, by its mark. home is Free here, since the hand is Idle: 18, nothing differs. Else it is returned, answer Completion; if not
 -- discarded the counters move, and status -19 or -108 answers 13, all this having been done.
 unfoldable pub noticed : Setup → Mark → ℕ → Ledger → List ℕ → Next
 noticed s home i l block = refused Error.StrayNotice l block

@@ -17,7 +17,7 @@ pub record Next : Type 0 where
   pub answer : Answer
   pub lent : List ℕ
 
--- Refused, and nothing differs.
+-- Refused, with the ledger and what is lent as given here.
 unfoldable pub refused : Error → Ledger → List ℕ → Next
 refused e l lent = record { ledger = l; answer = Answer.Refused e; lent = lent }
 
@@ -25,14 +25,14 @@ refused e l lent = record { ledger = l; answer = Answer.Refused e; lent = lent }
 unfoldable pub onBlock : Setup → Ledger → List ℕ → Next → Next
 onBlock s l block next = cond (eqb (length block) (totalOf s)) next (refused Error.BlockLength l block)
 
--- 9 for a wrong hand: the calls that want it Idle,
+-- `next` where the hand is Idle, else `wrong`, which is 9 in every rule.
 unfoldable pub onIdle : Hand → Next → Next → Next
 onIdle Hand.Idle next wrong = next
 onIdle (Hand.Held i) next wrong = wrong
 onIdle (Hand.Sending i) next wrong = wrong
 onIdle (Hand.Silent i left) next wrong = wrong
 
--- those that want it Held.
+-- The same for Held, with its slot.
 unfoldable pub onHeld : Hand → (ℕ → Next) → Next → Next
 onHeld Hand.Idle next wrong = wrong
 onHeld (Hand.Held i) next wrong = next i

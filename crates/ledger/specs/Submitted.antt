@@ -29,7 +29,7 @@ oneSubmitted bytes t =
       underruns = t .underruns;
     }
 
--- InFlight, submitted + 1, bytes submitted + max(0, buffer length in the block), armed. The hand lets go of the slot.
+-- InFlight, submitted + 1, bytes submitted + max(0, buffer length in the block), armed. Hand Idle.
 unfoldable pub acceptedLedger : Setup → ℕ → Ledger → List ℕ → Ledger
 acceptedLedger s i l block =
     withHand Hand.Idle (withTotals (oneSubmitted (bufferBytes s i block) (l .totals)) (withFlags (l .started) true (marked i out l)))
@@ -47,7 +47,7 @@ sent s Submission.Accepted i l block =
     record { ledger = acceptedLedger s i l block; answer = Answer.Done; lent = block }
 sent s (Submission.Errno e) i l block = submitFailed s i e l block
 
--- From Silent: with left 1 the next front slot is silenced with left 0; with left 0 as turn's taking.
+-- From Silent left 1: next front slot silenced with left 0; left 0 or empty queue: as turn's taking.
 unfoldable pub chained : Setup → ℕ → Ledger → List ℕ → Next
 chained s zero l block = takeFront (l .queue) l block
 chained s (suc more) l block = silenceFront s more (l .queue) l block

@@ -10,7 +10,7 @@ use Rattle.ring.specs.declared.Hand.{Hand}
 use Rattle.stream.specs.declared.Answer.{Answer}
 use Rattle.stream.specs.declared.IsoStats.{IsoStats}
 use Rattle.ledger.specs.Ledger.{Ledger, withHand, withQueue, withFlags, withTotals, outs, plus}
-use Rattle.ledger.specs.Block.{shares, capacityOf, committed, silenced}
+use Rattle.ledger.specs.Block.{lengthsOf, capacityOf, committed, silenced}
 use Rattle.ledger.specs.Step.{Next, refused, onBlock, onIdle}
 
 -- Front slot taken, Held(i), answer Slot(i); empty queue: Idle, Nothing.
@@ -26,7 +26,7 @@ silenceFront s left (i ∷ rest) l block =
     record {
       ledger = withHand (Hand.Silent i left) (withQueue rest l);
       answer = Answer.Submit i;
-      lent = committed s i (shares (s .«packets_per_urb») (s .«packet_bytes») (capacityOf s)) (silenced s i block);
+      lent = committed s i (lengthsOf s (capacityOf s)) (silenced s i block);
     }
 
 -- Started, armed and none out.
@@ -51,7 +51,7 @@ oneUnderrun t =
 unfoldable pub underrun : Ledger → Ledger
 underrun l = withTotals (oneUnderrun (l .totals)) (withFlags (l .started) false l)
 
--- By the policy: Error gives 19 with the count; FillSilence starts a silent chain; Continue takes a slot all the same.
+-- By the policy: Error gives 19 with the count; FillSilence: the front slot silenced, left 1; Continue: as without an underrun.
 unfoldable pub onUnderrun : Underrun → Setup → Ledger → List ℕ → Next
 onUnderrun Underrun.Continue s l block = takeFront (l .queue) l block
 onUnderrun Underrun.FillSilence s l block = silenceFront s 1 (l .queue) l block

@@ -1,5 +1,5 @@
-// The ten calls by value, by way of the lent ones: each lends its record to the call and hands it back. For programs: the checker
-// covers no function that makes a reference to a record.
+// The ten calls by value, by way of the lent ones: each lends its record to the call and hands it back. For programs: the
+// prover's own walk covers no function that makes a `&mut Stream`.
 use stream::Reaping;
 use stream::Reply;
 use stream::Stream;

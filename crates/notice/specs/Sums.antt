@@ -1,4 +1,4 @@
--- The two sums of a completion.
+-- The two sums of a completion. Only an internal function promises them together.
 use mathlib.Core.List.{List}
 use Rattle.sys.specs.declared.descriptor.IsoPacketDesc.{IsoPacketDesc}
 use Rattle.ledger.specs.Block

@@ -1,4 +1,5 @@
-// What submitted and reaped read from the block. A call has tested the setup, the block's length and the slot's number before it asks.
+// What submitted and reaped read from the block. A call has tested the setup, the block's length and, where it names a slot, its
+// number before it asks.
 use layout::Setup;
 use layout::masked;
 use ring::Found;

@@ -130,7 +130,7 @@ fn header_of(setup: Setup, i: usize) -> Urb
     )
 }
 
-// Internal: clears the block, then writes the fields that never change again into each header.
+// Internal: clears the block, then writes each slot's header.
 fn init_headers(setup: Setup, block: &mut [u8])
     requires { ⌜ (accepted setup ≡ true) × (length (now block) ≡ totalOf setup) ⌝ }
     ensures { λ _. ⌜ now (block .exit) ≡ openedBlock setup ⌝ }
@@ -150,7 +150,7 @@ pub fn open(setup: Setup, block: &mut [u8]) -> Reply
         × (r .stream ≡ openOutcome setup (now (block .entry)) .stream)
         × (now (block .exit) ≡ openOutcome setup (now (block .entry)) .block) ⌝ }
 {
-    match setup.refusal(block.len()) {
+    match setup.opens(block.len()) {
         Opens::Refused(e) => Reply {
             stream: no_stream(),
             answer: Answer::Refused(e),

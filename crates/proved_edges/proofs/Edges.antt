@@ -41,7 +41,7 @@ unfolding
     queueOf stateOf Slots.isFree Slots.isFilling Slots.isOut Slots.one Slots.holds Slots.handWithin Counts.everySlot Counts.howMany Counts.times Counts.allBelow
     Ring.queuedRight Ring.queueSound Ring.outSound Ring.heldRight Ring.handSound Ring.soundRing
     Ledger.withHand Ledger.withQueue Ledger.withMarks Ledger.withFlags Ledger.withTotals Ledger.markOf Ledger.marked Ledger.outs Ledger.slotState Ledger.stateIn Ledger.returned Ledger.plus
-    Block.sum Block.shares Block.descriptors Block.committed Block.silenced Block.bufferBytes Block.cookieOf Block.packetsAt Block.requested Block.short Block.completionOf
+    Block.sum Block.shares Block.descriptors Block.headed Block.committed Block.silenced Block.bufferBytes Block.cookieOf Block.packetsAt Block.requested Block.short Block.completionOf
     Step.refused Step.onBlock Step.onIdle Step.onHeld Step.putBack
     Turn.takeFront Turn.silenceFront Turn.drained Turn.oneUnderrun Turn.underrun Turn.onUnderrun Turn.turnIdle Turn.turn
     Commit.send Commit.commitHeld Commit.commit
@@ -50,7 +50,7 @@ unfolding
     Control.startedLedger Control.start
     Record.markFor Record.view Record.statesFrom Record.ringFor Record.stored Record.call
     History.rule History.lentTo History.made History.recordAfter
-    Hosts.opened Hosts.tell Hosts.lend eightCalls
+    Hosts.opened Hosts.callPlain Hosts.callLent eightCalls
 edges =
     record {
       layout-2-1-192 = refl;

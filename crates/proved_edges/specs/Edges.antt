@@ -30,7 +30,7 @@ use Rattle.ledger.specs.Block.{packetsAt}
 use Rattle.ledger.specs.Record.{Outcome}
 use Rattle.ledger.specs.Reaped.{slotOfUrb}
 use Rattle.history.specs.History.{turn, commit, submitted, reaped, start, made, recordAfter}
-use Rattle.proved_edges.specs.Hosts.{Host, opened, tell, lend}
+use Rattle.proved_edges.specs.Hosts.{Host, opened, callPlain, callLent}
 
 -- An answer is the refusal with that number.
 pub record Refuses {A : Type 0} (refused : Error → A) (answer : A) (number : ℕ) : Type 0 where
@@ -76,14 +76,14 @@ two = setupOf 2 1 192 Underrun.FillSilence
 -- start, turn, commit, accepted, reaped 0, turn, accepted, accepted.
 unfoldable pub eightCalls : Host
 eightCalls =
-    lend two (submitted Submission.Accepted)
-    (lend two (submitted Submission.Accepted)
-    (lend two turn
-    (lend two (reaped (Reaping.Address 65536))
-    (lend two (submitted Submission.Accepted)
-    (lend two (commit 192)
-    (lend two turn
-    (tell two start
+    callLent two (submitted Submission.Accepted)
+    (callLent two (submitted Submission.Accepted)
+    (callLent two turn
+    (callLent two (reaped (Reaping.Address 65536))
+    (callLent two (submitted Submission.Accepted)
+    (callLent two (commit 192)
+    (callLent two turn
+    (callPlain two start
     (opened two))))))))
 
 -- An isochronous endpoint with this wMaxPacketSize.

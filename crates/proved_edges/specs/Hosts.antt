@@ -17,12 +17,12 @@ unfoldable pub opened : Setup → Host
 opened s = record { calls = []; answers = []; block = openedBlock s }
 
 -- It makes a call that is lent nothing.
-unfoldable pub tell : Setup → Call → Host → Host
-tell s c h =
+unfoldable pub callPlain : Setup → Call → Host → Host
+callPlain s c h =
     record { calls = c ∷ h .calls; answers = h .answers ++ (made c (recordAfter s (h .calls)) .answer ∷ []); block = h .block }
 
 -- It makes a call that is lent the block.
-unfoldable pub lend : Setup → (List ℕ → Call) → Host → Host
-lend s c h =
+unfoldable pub callLent : Setup → (List ℕ → Call) → Host → Host
+callLent s c h =
     let outcome = made (c (h .block)) (recordAfter s (h .calls)) in
     record { calls = c (h .block) ∷ h .calls; answers = h .answers ++ (outcome .answer ∷ []); block = outcome .lent }

@@ -1,7 +1,7 @@
 -- The slot that an address names is one of the ring's: its offset is below n × stride, and the stride is not 0.
 -- By the tests of the definition. Assumes nothing.
 use mathlib.Core.Path.{_≡_, refl}
-use mathlib.Core.Bool.{Bool, true, false, cond, not}
+use mathlib.Core.Bool.{true, not}
 use mathlib.Core.List.{List}
 use Prim.Native.Nat.{ℕ, _-_, _*_, _/_, _%_, _<_}
 use native.Mathlib.Nat.{div-lt-iff-lt-mul}
@@ -13,16 +13,8 @@ use Rattle.layout.specs.Opening.{accepted, layoutFor, maskedOf}
 use Rattle.ring.specs.declared.Found.{Found}
 use Rattle.ledger.specs.Block.{cookieOf}
 use Rattle.ledger.specs.Reaped.{slotAt, slotOfUrb}
+use Rattle.ledger.proofs.Found.{found-past, found-at}
 use Rattle.notice.proofs.Offsets.{strided}
-
--- a test that finds nothing leaves what the next one finds
-found-past : (b : Bool) (f : Found) (i : ℕ) → cond b Found.Nothing f ≡ Found.Slot i → (b ≡ false) × (f ≡ Found.Slot i)
-found-past true f i e = let z : _≡_ {A = ℕ} 0 1 = cc in absurd (omega arith)
-found-past false f i e = (refl, e)
-
-found-at : (b : Bool) (i j : ℕ) → cond b (Found.Slot i) Found.Nothing ≡ Found.Slot j → i ≡ j
-found-at true i j e = cc
-found-at false i j e = let z : _≡_ {A = ℕ} 0 1 = cc in absurd (omega arith)
 
 offset-below : (s : Setup) → accepted s ≡ true → (offset : ℕ) (block : List ℕ) (i : ℕ) → slotAt s offset block ≡ Found.Slot i → i < s .slots
 unfolding slotAt

@@ -1,7 +1,7 @@
 -- A slot that was out, given back: it is not Free, so there is room in the queue, and it counts as out. The record that shows the ledger after
 -- its return is the record with the slot completed. Assumes nothing.
 use mathlib.Core.Path.{_≡_, refl, sym, ap, _∙_}
-use mathlib.Core.Bool.{true, false, false≢true}
+use mathlib.Core.Bool.{true, false≢true}
 use Prim.Native.Nat.{ℕ, _<_}
 use native.Mathlib.Omega.{arith}
 use Rattle.ring.specs.declared.Hand.{Hand}
@@ -9,8 +9,9 @@ use Rattle.ring.specs.declared.Ring.{Ring}
 use Rattle.ring.specs.declared.SlotState.{SlotState}
 use Rattle.ring.specs.Moves.{completed}
 use Rattle.ring.specs.Parts.{stateOf}
-use Rattle.ring.specs.Slots.{isFree, isOut}
+use Rattle.ring.specs.Slots.{isOut}
 use Rattle.ring.proofs.Pigeonhole.{room, out-some}
+use Rattle.ring.proofs.States.{out-not-free}
 use Rattle.ring.proofs.Wide.{Wide}
 use Rattle.stream.specs.declared.IsoStats.{IsoStats}
 use Rattle.stream.specs.declared.Stream.{Stream}
@@ -20,13 +21,6 @@ use Rattle.ledger.specs.Ledger.{withQueue, withMarks, withTotals, marked, retur
 use Rattle.ledger.specs.Record.{markFor, view, stored}
 use Rattle.ledger.proofs.Rings.{away, ring-completed}
 use Rattle.ledger.proofs.View.{facts, view-mark}
-
-out-not-free : (x : SlotState) → isOut x ≡ true → isFree x ≡ false
-unfolding isOut isFree
-out-not-free SlotState.Free e = absurd (false≢true e)
-out-not-free SlotState.Filling e = refl
-out-not-free SlotState.InFlight e = refl
-out-not-free SlotState.Discarding e = refl
 
 out-away : (x : SlotState) → isOut x ≡ true → away (markFor x) ≡ 1
 unfolding isOut away markFor

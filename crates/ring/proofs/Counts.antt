@@ -13,7 +13,7 @@ use lib.ListN.{length, getD, take}
 use borrow.Author.Tests.{lt-ltb, ltb-true, eq-eqb, ne-eqb}
 use Rattle.ring.specs.Slots.{one}
 use Rattle.ring.specs.Counts.{everySlot, howMany, times, allBelow}
-use Rattle.ring.proofs.Truth.{both, first, one-at-most, refuted, second}
+use Rattle.ring.proofs.Truth.{both, first, one-at-most, second}
 
 pub last-or-below : (i n : ℕ) → i < suc n → (i ≡ n) ⊎ (i < n)
 last-or-below i n h = go (ℕ-discrete i n)
@@ -50,18 +50,6 @@ module _ (test : ℕ → Bool) where
   count-at-most zero = omega arith
   count-at-most (suc n) = omega (arith, one-at-most (test n), count-at-most n)
 
-  -- all pass
-  pub count-all : (n : ℕ) → ((i : ℕ) → i < n → test i ≡ true) → howMany n test ≡ n
-  unfolding howMany one
-  count-all zero p = refl
-  count-all (suc n) p = omega (arith, ap one (p n (omega arith)), count-all n (λ i h. p i (omega arith)))
-
-  -- none passes
-  pub count-zero : (n : ℕ) → ((i : ℕ) → i < n → test i ≡ false) → howMany n test ≡ 0
-  unfolding howMany one
-  count-zero zero p = refl
-  count-zero (suc n) p = omega (arith, ap one (p n (omega arith)), count-zero n (λ i h. p i (omega arith)))
-
   -- one passes
   pub count-some : (n i : ℕ) → i < n → test i ≡ true → 0 < howMany n test
   unfolding howMany one
@@ -71,10 +59,6 @@ module _ (test : ℕ → Bool) where
       (λ (e : i ≡ n). omega (arith, ap one (sym (ap test e) ∙ p)))
       (λ (l : i < n). omega (arith, count-some n i l p))
       (last-or-below i n h)
-
-  pub count-none : (n : ℕ) → howMany n test ≡ 0 → (i : ℕ) → i < n → test i ≡ false
-  unfolding howMany one
-  count-none n e i h = refuted (test i) (λ p. omega (arith, count-some n i h p))
 
   -- one does not pass
   pub count-less : (n i : ℕ) → i < n → test i ≡ false → howMany n test < n

@@ -9,16 +9,15 @@ use mathlib.Core.List.{List, [], _∷_}
 use lib.Dec.{ltb}
 use lib.ListN.{length, getD}
 use borrow.Author.Tests.{ltb-true, eq-eqb, ne-eqb}
-use Rattle.ring.specs.declared.Hand.the-variants.{Idle}
 use Rattle.ring.specs.declared.SlotState.the-variants.{Free}
 use Rattle.ring.specs.declared.Ring.{Ring}
 use Rattle.ring.specs.declared.Hand.{Hand}
-use Rattle.ring.specs.Slots.{isFree, isOut, one, holds}
+use Rattle.ring.specs.Slots.{isFree, isOut, one}
 use Rattle.ring.specs.Counts.{howMany, times, allBelow}
 use Rattle.ring.specs.Parts.{queueOf, stateOf}
 use Rattle.ring.proofs.Truth.{first, is-one, second}
-use Rattle.ring.proofs.Counts.{last-or-below, count-all, count-some, count-none, count-less, below-at}
-use Rattle.ring.proofs.States.{free-is, else-free}
+use Rattle.ring.proofs.Counts.{last-or-below, count-some, count-less, below-at}
+use Rattle.ring.proofs.States.{free-is}
 use Rattle.ring.proofs.Queue.{queue-long}
 use Rattle.ring.proofs.Wide.{Wide}
 use Rattle.ring.proofs.Sound.{Sound}
@@ -106,11 +105,3 @@ module _ {n : ℕ} {ring : Ring} {hand : Hand} (s : Sound n ring hand) where
     -- a slot that is not Free leaves room in the queue
     pub room : (i : ℕ) → i < n → isFree (stateOf ring i) ≡ false → ring .«free_len» < n
     room i h p = omega (arith, queue-count, count-less (λ j. isFree (stateOf ring j)) n i h p)
-
--- with nothing in hand and none out every slot is in the queue
-pub all-queued : {n : ℕ} {ring : Ring} → Sound n ring Idle → Wide ring → ring .«in_flight» ≡ 0 → ring .«free_len» ≡ n
-unfolding holds
-all-queued {n} {ring} s wide none =
-    queue-count s wide ∙
-    count-all (λ i. isFree (stateOf ring i)) n
-    (λ i h. else-free (stateOf ring i) (s .held i h) (count-none (λ j. isOut (stateOf ring j)) n (sym (s .out) ∙ none) i h))

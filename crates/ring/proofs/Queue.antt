@@ -8,7 +8,7 @@ use mir.Val.{Fits}
 use mathlib.Core.Path.{_≡_, sym, ap, _∙_}
 use mathlib.Core.List.{List, [], _∷_, _++_}
 use lib.ListN.{length, getD, take, drop, set, length-append, length-drop, take-append-drop}
-use lib.Seq.{take-suc, drop-cons, set-at, set-split, getD-drop, getD-append-add, append-snoc, length-take-le, take-append-seam}
+use lib.Seq.{take-suc, drop-cons, set-at, set-split, getD-drop, getD-append-add, append-snoc, length-take-le}
 use Rattle.ring.specs.declared.Ring.{Ring}
 use Rattle.ring.specs.Parts.{queueOf, withQueue}
 
@@ -61,10 +61,6 @@ pub more-places : (l : List ℕ) (n i : ℕ) → n < length l → (take n l ++ (
 more-places l n i h = rw (set-split l n i h, append-snoc, add-one)
 
 module _ (ring : Ring) where
-  pub queue-put : (queue : List ℕ) → queueOf (withQueue ring queue) ≡ queue
-  unfolding queueOf withQueue
-  queue-put queue = take-append-seam queue (drop (length queue) (ring .free))
-
   pub queue-kept : ring .«free_len» ≤ length (ring .free) → withQueue ring (queueOf ring) ≡ ring
   unfolding queueOf withQueue
   queue-kept w = rw (length-take-le (ring .«free_len») (ring .free) w, take-append-drop)

@@ -1,4 +1,4 @@
--- The two walks of `Ring::sound`, a turn at a time: what a turn adds, and which fact of soundness fails where a turn gives up.
+-- The two walks of `Ring::sound`, an iteration at a time: what it adds, and which fact of soundness fails where it gives up.
 -- A slot is marked where it stands in the front of the queue that was walked. Assumes nothing.
 use Prim.Native.Nat.{ℕ, _+_, _≤_, _<_}
 use native.Mathlib.Decide.{ℕ-discrete}
@@ -37,7 +37,7 @@ pub hand-out :
 hand-out n ring hand fine e p =
     not-sound n ring hand (λ s. absurd (true≢false (sym (e ∙ s .within) ∙ not-true fine p)))
 
--- What a turn of the first walk starts from: the queue's entries before place k are slots of the ring, each once, and marked.
+-- What an iteration of the first walk starts from: the queue's entries before place k are slots of the ring, each once, and marked.
 pub record Walking (n : ℕ) (ring : Ring) (k : ℕ) (seen : List Bool) : Type 0 where
   pub few : n ≤ 256
   pub short : ring .«free_len» ≤ 256
@@ -109,7 +109,7 @@ pub whole :
 unfolding queueOf
 whole n ring k seen e below marked = rw e (below, marked)
 
--- What a turn of the second walk starts from: the slots of the whole queue are marked.
+-- What an iteration of the second walk starts from: the slots of the whole queue are marked.
 pub record Turn (n : ℕ) (ring : Ring) (hand : Hand) (seen : List Bool) (i : ℕ) : Type 0 where
   pub few : n ≤ 256
   pub inside : i < n

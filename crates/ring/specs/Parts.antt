@@ -1,4 +1,4 @@
--- What a ring shows, queue and states, and the ring with one of its parts changed. Only this file lists a ring's fields.
+-- What a ring shows, queue and states, and the ring with one of its parts changed.
 use Prim.Native.Nat.{ℕ}
 use mathlib.Core.List.{List, _++_}
 use lib.ListN.{length, take, drop, getD, set}

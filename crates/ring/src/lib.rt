@@ -1,4 +1,4 @@
-// The ring's slots and its free queue, the hand, and the test of both.
+// The ring's slots and its free queue, the hand, and the test that they are sound.
 // The queue is held front first, in the first free_len places of `free`. What stands behind it, and the states of slots
 // that the ring doesn't have, are never looked at and never change.
 ghost use mathlib.Core.Path.{_≡_};
@@ -20,7 +20,7 @@ pub enum SlotState {
     Discarding,
 }
 
-// One slot's place in the table of states.
+// One slot's place in the table of states: a struct, since the prover covers no array of enums as a field.
 pub struct Cell {
     pub state: SlotState,
 }
@@ -40,7 +40,7 @@ pub enum Hand {
     Silent(usize, usize),
 }
 
-// The slot that was taken from the queue, if there was one.
+// A slot, if there is one: taken from the queue, or named by an address.
 pub enum Found {
     Slot(usize),
     Nothing,

@@ -1,17 +1,12 @@
--- A signed number of 32 bits, by its bits: what a `match` on an `i32` tells of it.
+-- A number whose bits are none that `from_raw` names.
 -- Assumes nothing.
-use mathlib.Core.Path.{_≡_, refl, sym, ap, _∙_}
-use Prim.Native.Nat.{ℕ}
+use mathlib.Core.Path.{_≡_, refl}
 use lib.IntN.{ℤ, pos, negsuc}
 use mir.Syntax.{w32}
-use mir.Val.{SFits, ofZ, toZ}
-use mir.Facts.{toZ-ofZ}
+use mir.Val.{ofZ}
 use borrow.Author.Tests.{ne-eqb}
 use Rattle.schedule.specs.declared.speed.Speed.{Speed}
 use Rattle.schedule.specs.Speed.{fromRaw}
-
-pub of-bits : (z : ℤ) (k : ℕ) → SFits w32 z → ofZ w32 z ≡ k → z ≡ toZ w32 k
-of-bits z k f e = sym (toZ-ofZ f) ∙ ap (toZ w32) e
 
 -- a number that is none of 1 to 6 names no speed
 pub unnamed : (z : ℤ) → (ofZ w32 z ≡ 1 → ⊥) → (ofZ w32 z ≡ 2 → ⊥) → (ofZ w32 z ≡ 3 → ⊥) → (ofZ w32 z ≡ 4 → ⊥) → (ofZ w32 z ≡ 5 → ⊥) → (ofZ w32 z ≡ 6 → ⊥) → fromRaw z ≡ Speed.Unknown

@@ -25,7 +25,7 @@ fromRaw (pos n) =
 abbrev pub fromDeviceProbe : ℕ → Bool → Speed
 fromDeviceProbe size qualifier = cond (eqb size 9) Super (cond qualifier High Full)
 
--- USB 2.0: a frame of 1000 µs at Full, a microframe of 125 µs at High, Super and SuperPlus; no isochronous traffic at any other.
+-- Base: 1000 µs (Full) or 125 µs (High, Super, SuperPlus); the other speeds have none, which gives 21.
 abbrev pub serviceIntervalUs : Speed → ServiceInterval
 serviceIntervalUs Unknown = Unsupported
 serviceIntervalUs Low = Unsupported

@@ -64,7 +64,7 @@ impl Speed {
         }
     }
 
-    // The most service intervals between two packets, as usb_submit_urb caps them.
+    // The most service intervals between two packets, as the Rust caps them.
     pub fn max_intervals(self) -> u32
         ensures { λ r. ⌜ r ≡ maxIntervals self ⌝ }
     {

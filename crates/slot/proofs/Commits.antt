@@ -1,4 +1,4 @@
--- Laws of a commit and of silence: written at the slot's places they are what `committed` and `silenced` say, and neither changes the block's length; lengths of at most
+-- Laws of a commit and of silence: written at the slot's places they are what `committed` and `silenced` say, and silence keeps the block's length; lengths of at most
 -- packet_bytes sum to at most the capacity. The places are the slot's by an equation, and each law rewrites by it. Assumes nothing.
 use mathlib.Core.Path.{_≡_, sym, ap, _∙_}
 use mathlib.Core.Bool.{false}
@@ -13,21 +13,16 @@ use Rattle.sys.proofs.Store.{length-store, put-back}
 use Rattle.layout.specs.declared.Places.{Places}
 use Rattle.layout.specs.declared.Setup.{Setup}
 use Rattle.layout.specs.Places.{Placed}
-use Rattle.ledger.specs.Block.{sum, shares, capacityOf, descriptors, committed, silenced}
-use Rattle.ledger.specs.Commit.{anyAbove}
-use Rattle.slot.specs.Header.{headed}
+use Rattle.ledger.specs.Block.{sum, shares, capacityOf, descriptors, headed, committed, silenced}
+use Rattle.layout.specs.Layout.{anyAbove}
 use Rattle.slot.proofs.PacketLengths.{sum-within, sum-shares}
 
--- a commit and the silence keep the block's length
-pub length-committed : (s : Setup) (i : ℕ) (lengths block : List ℕ) → length (committed s i lengths block) ≡ length block
-unfolding committed
-length-committed s i lengths block = simp length-store
-
+-- the silence keeps the block's length
 pub length-silenced : (s : Setup) (i : ℕ) (block : List ℕ) → length (silenced s i block) ≡ length block
 unfolding silenced
 length-silenced s i block = simp length-store
 
--- a part from a to a + k that comes home with every byte the same
+-- a part from a to a + k that is given back with every byte the same
 silence-home : (a k byte : ℕ) (vs l : List ℕ) → a + k ≤ length l → vs ≡ replicate (length (part a (a + k - a) l)) byte
     → putMid a (a + k - a) l vs ≡ store a (replicate k byte) l
 silence-home a k byte vs l room e =
@@ -63,7 +58,7 @@ module _ (s : Setup) (i : ℕ) (r : Places) (placed : Placed s i r) where
       rw (placed .packets)
       (commit-parts (shares (s .«packets_per_urb») (s .«packet_bytes») bytes) block bytes (sym (sum-shares (s .«packets_per_urb») (s .«packet_bytes») bytes h)))
 
-  -- the payload that comes home full of the silence byte
+  -- the payload, given back with every byte the silence byte
   pub silence-parts : (vs block : List ℕ) → r .payload + r .capacity ≤ length block
       → vs ≡ replicate (length (part (r .payload) (r .payload + r .capacity - r .payload) block)) (s .«silence_byte»)
       → putMid (r .payload) (r .payload + r .capacity - r .payload) block vs ≡ silenced s i block

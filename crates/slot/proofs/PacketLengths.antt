@@ -13,7 +13,7 @@ use lib.ListN.{length, drop, getD, drop-of-length-le}
 use lib.Seq.{drop-cons}
 use Rattle.layout.proofs.Refusals.{or-falses}
 use Rattle.ledger.specs.Block.{sum, shares}
-use Rattle.ledger.specs.Commit.{anyAbove}
+use Rattle.layout.specs.Layout.{anyAbove}
 
 module _ (ls : List ℕ) (k : ℕ) where
   -- the lengths from place k on: the one there, then the others

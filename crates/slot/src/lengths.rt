@@ -11,10 +11,9 @@ ghost use lib.ListN.{length};
 ghost use Rattle.sys.specs.Bytes.{store};
 ghost use Rattle.sys.specs.Header.{headerSize};
 ghost use Rattle.sys.specs.Descriptor.{descSize, descBytes, packetOf};
+ghost use Rattle.layout.specs.Layout.{anyAbove};
 ghost use Rattle.layout.specs.Opening.{accepted, totalOf};
-ghost use Rattle.ledger.specs.Block.{sum, shares, capacityOf, descriptors, committed};
-ghost use Rattle.ledger.specs.Commit.{anyAbove};
-ghost use Rattle.slot.specs.Header.{headed};
+ghost use Rattle.ledger.specs.Block.{sum, shares, capacityOf, descriptors, headed, committed};
 
 // The smaller of two numbers.
 fn min(a: usize, b: usize) -> usize
@@ -85,7 +84,7 @@ fn write_shares(block: &mut [u8], at: usize, packets: usize, most: usize, bytes:
     }
 }
 
-// Internal: writes one descriptor a length from `at` on.
+// Internal: writes one descriptor a length from `at` on. `most` stands in the contract alone: with it each length fits 32 bits.
 fn write_lengths(block: &mut [u8], at: usize, lengths: &[usize], most: usize)
     requires { ⌜ (at + descSize * length (now lengths) ≤ length (now block)) × (most < 2 ^ 32) × (anyAbove most (now lengths) ≡ false) ⌝ }
     ensures { λ _. ⌜ now (block .exit) ≡ store at (descriptors (now (lengths .entry))) (now (block .entry)) ⌝ }

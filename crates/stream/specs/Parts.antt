@@ -1,4 +1,4 @@
--- A record with one of its parts changed. Only this file lists a record's fields.
+-- Counters at zero, and a record with all but opening's values replaced.
 use Rattle.ring.specs.declared.Hand.{Hand}
 use Rattle.ring.specs.declared.Ring.{Ring}
 use Rattle.stream.specs.declared.Flags.{Flags}
@@ -19,6 +19,6 @@ noStats =
       underruns = 0;
     }
 
--- The record with all but opening's values changed.
+-- The record with all but opening's values replaced.
 unfoldable pub withState : Stream → Ring → Hand → Flags → IsoStats → Stream
 withState s ring hand flags stats = record { setup = s .setup; ring = ring; hand = hand; flags = flags; stats = stats }

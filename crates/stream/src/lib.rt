@@ -18,7 +18,7 @@ pub struct IsoStats {
     pub underruns: u64,
 }
 
-// Started: between start and stop. Armed: a URB was accepted since, so that a drained ring is an underrun.
+// Started: between start and stop. Armed: a URB was accepted since the last stop, counted underrun, or start that had an effect.
 pub struct Flags {
     pub started: bool,
     pub armed: bool,
@@ -74,7 +74,7 @@ pub struct Reply {
     pub answer: Answer,
 }
 
-// Whether a call that is lent a block may look at the hand.
+// Whether a call's first tests passed.
 pub enum Gate {
     Open,
     Refused(Error),

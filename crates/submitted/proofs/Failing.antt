@@ -21,7 +21,7 @@ use Rattle.stream.specs.Sound.{sound}
 use Rattle.ledger.specs.Record.{view}
 use Rattle.ledger.specs.Step.{putBack}
 use Rattle.ledger.specs.Submitted.{submitFailed}
-use Rattle.turn.specs.Gives.{Gives}
+use Rattle.ledger.specs.Gives.{Gives}
 use Rattle.ledger.proofs.InHand.{returned-stored}
 
 pub payload-fits : (s : Setup) → Limited s → (s .slots * s .«packets_per_urb» ≤ 32768) × (s .slots * s .«packets_per_urb» * s .«packet_bytes» ≤ 1610612736)

@@ -20,7 +20,7 @@ use Rattle.ledger.specs.Turn.{takeFront, silenceFront}
 use Rattle.ledger.specs.Submitted.{sent, chained, silent, bySending, submitted}
 use Rattle.ledger.specs.Record.{view, call}
 use Rattle.ledger.proofs.Calls.{Told, call-refused, on-block}
-use Rattle.turn.specs.Gives.{Gives}
+use Rattle.ledger.specs.Gives.{Gives}
 
 module _ (s : Stream) (reply : Submission) (block : List ℕ) (long : length block ≡ totalOf (s .setup)) (h : Hand) (e : s .hand ≡ h) where
   pub submitted-by : submitted reply (s .setup) (view s) block ≡ bySending h (s .setup) reply (view s) block

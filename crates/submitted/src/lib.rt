@@ -24,7 +24,7 @@ ghost use Rattle.ring.specs.Slots.{holds};
 ghost use Rattle.stream.specs.Sound.{sound};
 ghost use Rattle.ledger.specs.Record.{view, stored, call};
 ghost use Rattle.ledger.specs.Submitted.{acceptedLedger, submitFailed, chained, sent as sentRule, silent as silentRule, submitted as submittedRule};
-ghost use Rattle.turn.specs.Gives.{Gives};
+ghost use Rattle.ledger.specs.Gives.{Gives};
 
 // Internal: the payload bytes of all slots.
 fn payload_bytes(setup: Setup) -> u64

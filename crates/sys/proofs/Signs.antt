@@ -1,6 +1,6 @@
 -- Laws of two's complement at 32 bits: `signed` and `unsigned` undo each other, and -1 - x turns a number over, so that the code needs no wider type.
 -- Each goes by the sign. Assumes nothing.
-use mathlib.Core.Path.{_≡_, refl, ap, _∙_}
+use mathlib.Core.Path.{_≡_, refl, sym, ap, _∙_}
 use mathlib.Core.Bool.{Bool, true, false, true≢false}
 use Prim.Native.Nat.{ℕ, zero, suc, _-_, _^_, _≤_, _<_}
 use native.Mathlib.Nat.{zero-add}
@@ -41,6 +41,10 @@ unsigned-signed n h = by (ltb n (2 ^ 31)) refl where
   by false e =
       let large : 2 ^ 31 ≤ n = ltb-false n (2 ^ 31) e in
       ap unsigned (signed-large n large) ∙ omega arith
+
+-- the number that has these bits
+pub of-bits : (z : ℤ) (k : ℕ) → SFits w32 z → ofZ w32 z ≡ k → z ≡ toZ w32 k
+of-bits z k f e = sym (toZ-ofZ w32 z f) ∙ ap (toZ w32) e
 
 -- a signed number as it is read from the bits that hold it
 pub held : (z : ℤ) (n : ℕ) → mag z < 2 ^ 31 → z ≡ signed n → toZ w32 (ofZ w32 z) ≡ signed n

@@ -105,7 +105,7 @@ store-all vs l e =
     let past : length l ≤ 0 + length vs = omega arith in
     store-eq 0 vs l (omega arith) ∙ ap (λ (r : List ℕ). vs ++ r) (drop-of-length-le l past) ∙ append-nil vs
 
--- a part that was lent and comes home with k bytes is a store of those
+-- a part that was lent and is given back with k bytes is a store of those
 pub put-back : (at k : ℕ) (vs l : List ℕ) → length vs ≡ k → at + k ≤ length l → putMid at k l vs ≡ store at vs l
 put-back at k vs l e room =
     let covered : at + length vs ≤ length l = omega arith in
@@ -125,7 +125,7 @@ part-part at n i k l h room =
     ∙ ap (part i k) (take-append-drop n (drop at l))
     ∙ ap (take k) (drop-drop i at l)
 
--- a store into a part that comes home is a store into the whole
+-- a store into a part that is given back is a store into the whole
 pub store-part : (at k i : ℕ) (vs l : List ℕ) → i + length vs ≤ k → at + k ≤ length l → store at (store i vs (part at k l)) l ≡ store (at + i) vs l
 store-part at k i vs l h room =
     let rest = drop at l in

@@ -17,9 +17,9 @@ use Rattle.ledger.specs.Ledger.{Ledger}
 use Rattle.ledger.specs.Step.{Next}
 use Rattle.ledger.specs.Turn.{takeFront}
 use Rattle.ledger.specs.Record.{view, stored, call}
-use Rattle.ledger.proofs.Calls.{Told, call-moved, stored-again}
+use Rattle.ledger.proofs.Calls.{Told, call-moved, stored-again, stored-setup}
 use Rattle.ledger.proofs.Valid.{Valid, stored-sound, view-stored}
-use Rattle.turn.specs.Gives.{Gives}
+use Rattle.ledger.specs.Gives.{Gives}
 
 -- the call's outcome
 pub told : (step : Setup → Ledger → List ℕ → Next) (s : Stream) (lent : List ℕ) → sound s ≡ true → (next : Next) → step (s .setup) (view s) lent ≡ next → (r : Reply) (left : List ℕ) → Gives s next r left → Told (call step s lent) (r .stream) (r .answer) left
@@ -36,10 +36,6 @@ take-lent s (i ∷ rest) l r lent g = record { answer = g .answer; stream = g .s
 stored-hand : (s : Stream) (l : Ledger) → stored s l .hand ≡ l .hand
 unfolding stored withState
 stored-hand s l = refl
-
-stored-setup : (s : Stream) (l : Ledger) → stored s l .setup ≡ s .setup
-unfolding stored withState
-stored-setup s l = refl
 
 -- a second rule, on the record that stores the first one's ledger
 module _ (s : Stream) (ok : sound s ≡ true) (wide : Wide (s .ring)) (l : Ledger) (v : Valid (s .setup .slots) l) (to : Stream) (e : to ≡ stored s l) where

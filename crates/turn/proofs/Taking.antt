@@ -27,7 +27,7 @@ use Rattle.ledger.specs.Record.{view, stored}
 use Rattle.ledger.specs.Turn.{takeFront, silenceFront}
 use Rattle.ledger.proofs.Rings.{ring-taken}
 use Rattle.ledger.proofs.View.{facts, stored-view}
-use Rattle.turn.specs.Gives.{Gives}
+use Rattle.ledger.specs.Gives.{Gives}
 
 -- slot i stood first in the queue, and has left it
 record Front (ring : Ring) (t : Taken) (i : ℕ) : Type 0 where

@@ -22,7 +22,7 @@ use Rattle.ledger.specs.Step.{refused}
 use Rattle.ledger.specs.Turn.{takeFront, drained, oneUnderrun, underrun, onUnderrun, turnIdle}
 use Rattle.ledger.proofs.Rings.{ring-kept}
 use Rattle.ledger.proofs.View.{view-outs}
-use Rattle.turn.specs.Gives.{Gives}
+use Rattle.ledger.specs.Gives.{Gives}
 
 module _ (s : Stream) (ok : sound s ≡ true) (wide : Wide (s .ring)) where
   pub drained-is : drained (view s) ≡ (s .flags .started && s .flags .armed && eqb (s .ring .«in_flight») 0)
@@ -62,7 +62,7 @@ module _ (s : Stream) (block : List ℕ) (r : Reply) (left : List ℕ) where
   pub by-policy : (l : Ledger) (u : Underrun) → s .setup .underrun ≡ u → Gives s (onUnderrun u (s .setup) l block) r left → Gives s (onUnderrun (s .setup .underrun) (s .setup) l block) r left
   by-policy l u e g = subst (λ (x : Underrun). Gives s (onUnderrun x (s .setup) l block) r left) (sym e) g
 
-  -- by whether the stream has run dry
+  -- by whether the stream has drained
   pub by-drained : (dry : Bool) → drained (view s) ≡ dry → Gives s (cond dry (onUnderrun (s .setup .underrun) (s .setup) (underrun (view s)) block) (takeFront (view s .queue) (view s) block)) r left → Gives s (turnIdle (s .setup) (view s) block) r left
   unfolding turnIdle
   by-drained dry e g =

@@ -15,7 +15,7 @@ ghost use Rattle.stream.specs.Parts.{withState};
 ghost use Rattle.stream.specs.Sound.{sound};
 ghost use Rattle.ledger.specs.Record.{view};
 ghost use Rattle.ledger.specs.Turn.{takeFront, silenceFront};
-ghost use Rattle.turn.specs.Gives.{Gives};
+ghost use Rattle.ledger.specs.Gives.{Gives};
 
 // Internal: the record with another ring and hand.
 pub fn with_hand(s: Stream, ring: Ring, hand: Hand) -> Stream

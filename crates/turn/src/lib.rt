@@ -19,9 +19,9 @@ ghost use Rattle.layout.specs.Opening.{totalOf};
 ghost use Rattle.stream.specs.Sound.{sound};
 ghost use Rattle.ledger.specs.Record.{view, stored, call};
 ghost use Rattle.ledger.specs.Turn.{drained as drainedLedger, underrun, onUnderrun, turnIdle, turn as turnRule};
-ghost use Rattle.turn.specs.Gives.{Gives};
+ghost use Rattle.ledger.specs.Gives.{Gives};
 
-// Internal: whether the stream has run dry: started, armed and none out.
+// Internal: whether the stream has drained: started, armed and none out.
 fn drained(s: Stream) -> bool
     requires { ⌜ sound s ≡ true ⌝ }
     ensures { λ r. ⌜ r ≡ drainedLedger (view s) ⌝ }
@@ -31,7 +31,7 @@ fn drained(s: Stream) -> bool
     flags.started && flags.armed && ring.in_flight == 0
 }
 
-// Internal: counts an underrun, once for each time that the stream runs dry: only an acceptance arms it again.
+// Internal: counts an underrun, once for each time that the stream drains: only an acceptance arms it again.
 fn count_underrun(s: Stream) -> Stream
     requires { ⌜ sound s ≡ true ⌝ }
     ensures { λ r. ⌜ r ≡ stored s (underrun (view s)) ⌝ }
@@ -98,7 +98,7 @@ pub fn wrong_hand(s: Stream) -> Reply
     }
 }
 
-// The next slot for the host, or a silent one to submit where the stream has run dry and the policy says so.
+// The next slot for the host, or a silent one to submit where the stream has drained and the policy says so.
 pub fn turn(s: Stream, block: &mut [u8]) -> Reply
     ensures { λ r. ⌜ (r .answer ≡ call turnRule s (now (block .entry)) .answer) × (r .stream ≡ call turnRule s (now (block .entry)) .stream) × (now (block .exit) ≡ call turnRule s (now (block .entry)) .lent) ⌝ }
 {

@@ -6,10 +6,9 @@ use mathlib.Core.List.{[]}
 use borrow.Author.Needs.{needs}
 use borrow.Author.Tests.{eq-eqb, ne-eqb}
 use Rattle.ring.specs.declared.Hand.{Hand}
-use Rattle.ring.proofs.Wide.{Wide}
+use Rattle.ring.proofs.Wide.{Wide, table-long}
 use Rattle.stream.specs.Sound.{sound}
 use Rattle.ledger.specs.Control.{finish}
-use Rattle.control.proofs.Arrays.{length-mapped}
 use Rattle.control.proofs.Replies.{replied}
 use Rattle.control.proofs.Idle.{idle-passed, idle-refused}
 use Rattle.control.proofs.Unmoved.{finished}
@@ -17,7 +16,7 @@ use Rattle.control.proofs.finish.Statement.{statement}
 use Rattle.control.proofs.finish.Tie as tie
 
 wide : (c : tie.Start) → Wide (c .args .s .ring)
-wide c = record { table = search (needs, length-mapped); places = search needs }
+wide c = record { table = search (needs, table-long); places = search needs }
 
 passed : (c : tie.After-enum-told) → (sound (c .before .before .before .args .s) ≡ true) × (c .before .before .before .args .s .hand ≡ Hand.Idle)
 passed c = idle-passed _ _ (c .before .before .idle-gate .ensures) (c .enum-told .given .1)

@@ -6,19 +6,18 @@ use mathlib.Core.List.{[]}
 use borrow.Author.Needs.{needs}
 use borrow.Author.Tests.{eq-eqb, not-true, not-false}
 use Rattle.ring.specs.Slots.{holds}
-use Rattle.ring.proofs.Wide.{Wide}
+use Rattle.ring.proofs.Wide.{Wide, table-long}
 use Rattle.stream.specs.Sound.{sound}
 use Rattle.ledger.specs.Step.{onHeld}
 use Rattle.ledger.specs.Control.{giveBack}
 use Rattle.ledger.proofs.Calls.{call-unsound}
-use Rattle.control.proofs.Arrays.{length-mapped}
 use Rattle.control.proofs.Replies.{replied}
 use Rattle.control.proofs.Handed.{given-back, not-held}
 use Rattle.control.proofs.give_back.Statement.{statement}
 use Rattle.control.proofs.give_back.Tie as tie
 
 wide : (c : tie.Start) → Wide (c .args .s .ring)
-wide c = record { table = search (needs, length-mapped); places = search needs }
+wide c = record { table = search (needs, table-long); places = search needs }
 
 passed : (c : tie.Else1) → sound (c .before .before .args .s) ≡ true
 passed c = sym (c .before .sound .ensures) ∙ not-false _ (c .if1 .left)

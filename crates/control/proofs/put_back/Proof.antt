@@ -4,15 +4,14 @@ use mathlib.Core.Path.{ap, _∙_}
 use borrow.Author.Needs.{needs}
 use Rattle.ring.specs.declared.Hand.{Hand}
 use Rattle.ring.specs.declared.Ring.{Ring}
-use Rattle.ring.proofs.Wide.{Wide}
+use Rattle.ring.proofs.Wide.{Wide, table-long}
 use Rattle.stream.specs.Parts.{withState}
 use Rattle.ledger.proofs.InHand.{queue-room, returned-stored}
-use Rattle.control.proofs.Arrays.{length-mapped}
 use Rattle.control.proofs.put_back.Statement.{statement}
 use Rattle.control.proofs.put_back.Tie as tie
 
 wide : (c : tie.Start) → Wide (c .args .s .ring)
-wide c = record { table = search (needs, length-mapped); places = search needs }
+wide c = record { table = search (needs, table-long); places = search needs }
 
 release-requires : tie.Need-release-requires
 release-requires c κs =

@@ -5,9 +5,8 @@ use mathlib.Core.Bool.{false, cond}
 use mathlib.Core.List.{[]}
 use mathlib.Core.Logic.{⊎-elim}
 use borrow.Author.Needs.{needs}
-use Rattle.ring.proofs.Wide.{Wide}
+use Rattle.ring.proofs.Wide.{Wide, table-long}
 use Rattle.ledger.specs.Control.{start}
-use Rattle.control.proofs.Arrays.{length-mapped}
 use Rattle.control.proofs.Replies.{replied}
 use Rattle.control.proofs.Idle.{idle-passed, idle-refused}
 use Rattle.control.proofs.Unmoved.{started}
@@ -15,7 +14,7 @@ use Rattle.control.proofs.start.Statement.{statement}
 use Rattle.control.proofs.start.Tie as tie
 
 wide : (c : tie.Start) → Wide (c .args .s .ring)
-wide c = record { table = search (needs, length-mapped); places = search needs }
+wide c = record { table = search (needs, table-long); places = search needs }
 
 returns : tie.Need-returns
 unfolding start

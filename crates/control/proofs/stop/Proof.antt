@@ -5,11 +5,10 @@ use mathlib.Core.Bool.{true}
 use borrow.Author.Needs.{needs}
 use denote.Ref.{now}
 use Rattle.ring.specs.declared.Hand.{Hand}
-use Rattle.ring.proofs.Wide.{Wide}
+use Rattle.ring.proofs.Wide.{Wide, table-long}
 use Rattle.stream.specs.Sound.{sound}
 use Rattle.ledger.specs.Control.{stop}
 use Rattle.ledger.proofs.View.{facts}
-use Rattle.control.proofs.Arrays.{length-mapped}
 use Rattle.control.proofs.Replies.{replied-list}
 use Rattle.control.proofs.Idle.{idle-passed, idle-refused}
 use Rattle.control.proofs.Stopped.{count-fits, too-short, all-stopped}
@@ -17,7 +16,7 @@ use Rattle.control.proofs.stop.Statement.{statement}
 use Rattle.control.proofs.stop.Tie as tie
 
 wide : (c : tie.Start) → Wide (c .args .s .ring)
-wide c = record { table = search (needs, length-mapped); places = search needs }
+wide c = record { table = search (needs, table-long); places = search needs }
 
 passed : (c : tie.After-enum-told) → (sound (c .before .before .before .before .args .s) ≡ true) × (c .before .before .before .before .args .s .hand ≡ Hand.Idle)
 passed c = idle-passed _ _ (c .before .before .idle-gate .ensures) (c .enum-told .given .1)

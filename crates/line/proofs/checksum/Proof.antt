@@ -1,4 +1,4 @@
--- `line::checksum` is safe and ends. The sum is below 2^32 at each turn, so that no product wraps; the measure is how many bytes are left.
+-- `line::checksum` is safe and ends. The sum is below 2^32 at each iteration, so that no product wraps; the measure is how many bytes are left.
 -- Assumes nothing.
 use Prim.Native.Nat.{_-_, _<_}
 use mathlib.Core.Path.{_≡_}

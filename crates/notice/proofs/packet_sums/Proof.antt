@@ -1,5 +1,5 @@
--- `notice::packet_sums` meets its contract. What holds at each turn: each sum so far and that of the packets left are the sum of all, and it is below 2^32 for each packet passed.
--- A turn takes in the first of them; the measure is how many are left. Assumes nothing.
+-- `notice::packet_sums` meets its contract. What holds at each iteration: each sum so far and that of the packets left are the sum of all, and it is below 2^32 for each packet passed.
+-- An iteration takes in the first of them; the measure is how many are left. Assumes nothing.
 use mathlib.Core.Path.{_≡_, ap}
 use Prim.Native.Nat.{_+_, _-_, _*_, _≤_}
 use native.Mathlib.Nat.{sub-zero, zero-add}

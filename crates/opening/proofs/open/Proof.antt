@@ -1,4 +1,4 @@
--- `opening::open` meets its contract. By the answer of `refusal`, either nothing is written and the record is that of no slots,
+-- `opening::open` meets its contract. By the answer of `opens`, either nothing is written and the record is that of no slots,
 -- or the values are accepted and the block has their total, and record and block are made anew. Assumes nothing.
 use mathlib.Core.Path.{_≡_, refl, sym, _∙_}
 use borrow.Author.Needs.{needs}
@@ -10,9 +10,9 @@ use Rattle.opening.specs.Open.{outcomeOf, openOutcome}
 use Rattle.opening.proofs.open.Statement.{statement}
 use Rattle.opening.proofs.open.Tie as tie
 
--- where `refusal` lets the values pass
+-- where `opens` lets the values pass
 passed : (c : tie.After-enum-told) → let a = c .before .before .before .before .args in opens (a .setup) (length (a .block .now)) ≡ Opens.Yes (c .enum-told .given .0 .0)
-passed c = sym (c .before .before .refusal .ensures) ∙ c .enum-told .given .1
+passed c = sym (c .before .before .opens .ensures) ∙ c .enum-told .given .1
 
 granted : (c : tie.After-enum-told) → let a = c .before .before .before .before .args in Opened (a .setup) (length (a .block .now)) (c .enum-told .given .0 .0)
 granted c = opened-yes _ _ _ (passed c)
@@ -27,7 +27,7 @@ returns : tie.Need-returns
 unfolding openOutcome outcomeOf
 returns c =
     let told = c .before .before in
-    rw (sym (told .before .before .refusal .ensures) ∙ told .e .given .1) (refl, c .no-stream .ensures, refl)
+    rw (sym (told .before .before .opens .ensures) ∙ told .e .given .1) (refl, c .no-stream .ensures, refl)
 
 returns-2 : tie.Need-returns-2
 unfolding openOutcome outcomeOf

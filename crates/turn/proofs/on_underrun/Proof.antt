@@ -18,7 +18,7 @@ use Rattle.ledger.specs.Turn.{takeFront, silenceFront, underrun, onUnderrun}
 use Rattle.ledger.specs.Record.{view}
 use Rattle.ledger.proofs.Kept.{underrun-valid}
 use Rattle.ledger.proofs.Valid.{Valid, sound-valid}
-use Rattle.turn.specs.Gives.{Gives}
+use Rattle.ledger.specs.Gives.{Gives}
 use Rattle.turn.proofs.Giving.{take-lent, sound-again, hand-again, total-again, gives-again}
 use Rattle.turn.proofs.Underruns.{underrun-queue, underrun-hand, by-policy, told-underrun}
 use Rattle.turn.proofs.on_underrun.Statement.{statement}

@@ -1,4 +1,4 @@
--- `turn::turn_idle` meets its contract: by whether the stream has run dry, one callee or the other gives what the rule says.
+-- `turn::turn_idle` meets its contract: by whether the stream has drained, one callee or the other gives what the rule says.
 -- Assumes nothing.
 use mathlib.Core.Path.{sym, _∙_}
 use mathlib.Core.Bool.{true, false}

@@ -1,8 +1,9 @@
 -- `reaped::counters::urb_error` meets its contract: each return knows whether the status is 0.
 -- Assumes nothing.
 use mathlib.Core.Path.{sym}
+use Rattle.sys.proofs.Signs.{of-bits}
 use Rattle.ledger.specs.Reaped.{isZero, urbError}
-use Rattle.reaped.proofs.Bits.{of-bits, error-counted}
+use Rattle.reaped.proofs.Bits.{error-counted}
 use Rattle.reaped.proofs.counters.urb_error.Statement.{statement}
 use Rattle.reaped.proofs.counters.urb_error.Tie as tie
 

@@ -1,8 +1,9 @@
 -- `reaped::status::is_gone` meets its contract: each arm knows the bits of the status, or that they are neither's.
 -- Assumes nothing.
 use mathlib.Core.Path.{sym}
+use Rattle.sys.proofs.Signs.{of-bits}
 use Rattle.ledger.specs.Reaped.{isGone}
-use Rattle.reaped.proofs.Bits.{of-bits, not-gone}
+use Rattle.reaped.proofs.Bits.{not-gone}
 use Rattle.reaped.proofs.status.is_gone.Statement.{statement}
 use Rattle.reaped.proofs.status.is_gone.Tie as tie
 

@@ -1,11 +1,11 @@
--- `slot::lengths::any_above` meets its contract. What holds at each turn: whether any length is above `most` is whether one of those left is.
--- A turn looks at the first of them; the measure is how many are left. Assumes nothing.
+-- `slot::lengths::any_above` meets its contract. What holds at each iteration: whether any length is above `most` is whether one of those left is.
+-- An iteration looks at the first of them; the measure is how many are left. Assumes nothing.
 use mathlib.Core.Path.{_≡_, refl, sym, _∙_}
 use Prim.Native.Nat.{_-_}
 use native.Mathlib.Omega.{arith}
 use borrow.Author.Needs.{needs}
 use lib.ListN.{length, drop}
-use Rattle.ledger.specs.Commit.{anyAbove}
+use Rattle.layout.specs.Layout.{anyAbove}
 use Rattle.slot.proofs.PacketLengths.{above-here, above-later, above-none}
 use Rattle.slot.proofs.lengths.any_above.Statement.{statement}
 use Rattle.slot.proofs.lengths.any_above.Tie as tie

@@ -1,5 +1,5 @@
--- `slot::lengths::total_of` meets its contract. What holds at each turn: the total so far and the sum of the lengths left are the sum of all.
--- A turn takes in the first of them; the measure is how many are left. Assumes nothing.
+-- `slot::lengths::total_of` meets its contract. What holds at each iteration: the total so far and the sum of the lengths left are the sum of all.
+-- An iteration takes in the first of them; the measure is how many are left. Assumes nothing.
 use mathlib.Core.Path.{_≡_}
 use Prim.Native.Nat.{_+_, _-_}
 use native.Mathlib.Nat.{zero-add}
@@ -17,7 +17,7 @@ Inv-loop lengths total₀ k₀ total k = total + sum (drop k lengths) ≡ sum le
 abbrev μ-loop : tie.MeasureT-loop
 μ-loop lengths total₀ k₀ total k = length lengths - k
 
--- what a turn takes in
+-- what an iteration takes in
 next : (c : tie.In-loop Inv-loop μ-loop)
     → sum (drop (c .before .loop .k) (c .before .before .args .lengths .now))
     ≡ getD (c .before .before .args .lengths .now) (c .before .loop .k) 0 + sum (drop (c .before .loop .k + 1) (c .before .before .args .lengths .now))

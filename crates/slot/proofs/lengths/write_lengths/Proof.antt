@@ -1,5 +1,5 @@
--- `slot::lengths::write_lengths` meets its contract. What holds at each turn: storing the descriptors of the lengths left at the place reached gives the block that the contract asks for.
--- A turn stores the first of them; the measure is how many are left. Assumes nothing.
+-- `slot::lengths::write_lengths` meets its contract. What holds at each iteration: storing the descriptors of the lengths left at the place reached gives the block that the contract asks for.
+-- An iteration stores the first of them; the measure is how many are left. Assumes nothing.
 use mathlib.Core.Path.{_≡_, refl, sym, ap, _∙_}
 use mathlib.Core.List.{List}
 use Prim.Native.Nat.{ℕ, suc, _+_, _-_, _*_, _≤_, _<_}

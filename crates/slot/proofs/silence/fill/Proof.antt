@@ -1,5 +1,5 @@
--- `slot::silence::fill` meets its contract. What holds at each turn: the payload is k bytes of silence, then what it was from place k on.
--- A turn stores one more; the measure is how many bytes are left. Assumes nothing.
+-- `slot::silence::fill` meets its contract. What holds at each iteration: the payload is k bytes of silence, then what it was from place k on.
+-- An iteration stores one more; the measure is how many bytes are left. Assumes nothing.
 use mathlib.Core.Path.{_≡_, refl, ap, _∙_}
 use mathlib.Core.List.{List, _++_, append-nil}
 use Prim.Native.Nat.{ℕ, _-_, _≤_}

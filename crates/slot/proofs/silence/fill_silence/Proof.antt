@@ -1,4 +1,4 @@
--- `slot::silence::fill_silence` meets its contract: the payload comes home full of the silence byte, and then all of it is committed.
+-- `slot::silence::fill_silence` meets its contract: the payload is then all silence bytes, and all of it is committed.
 -- Assumes nothing.
 use mathlib.Core.Path.{ap, _∙_}
 use Prim.Native.Nat.{ℕ}

@@ -1,5 +1,5 @@
--- `sys::field::get` meets its contract. What holds at each turn: the value is the number in the bytes from the place reached to the field's end.
--- A turn takes in one byte below them; the measure is how many bytes are left. Assumes nothing.
+-- `sys::field::get` meets its contract. What holds at each iteration: the value is the number in the bytes from the place reached to the field's end.
+-- An iteration takes in one byte below them; the measure is how many bytes are left. Assumes nothing.
 use mathlib.Core.Path.{_≡_, refl}
 use mathlib.Core.List.{List}
 use Prim.Native.Nat.{ℕ, suc, _+_, _-_, _*_, _^_, _≤_, _<_}

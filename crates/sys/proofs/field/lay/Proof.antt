@@ -1,5 +1,5 @@
--- `sys::field::lay` meets its contract. What holds at each turn: storing the numbers that are left at the place reached gives the slice that the contract asks for, with room.
--- A turn stores the first of them; the measure is how many are left. Assumes nothing.
+-- `sys::field::lay` meets its contract. What holds at each iteration: storing the numbers that are left at the place reached gives the slice that the contract asks for, with room.
+-- An iteration stores the first of them; the measure is how many are left. Assumes nothing.
 use mathlib.Core.Path.{_≡_, refl, sym, ap, _∙_}
 use mathlib.Core.List.{List, _++_}
 use Prim.Native.Nat.{ℕ, _+_, _-_, _≤_, _<_}
@@ -48,7 +48,7 @@ done : (widths values : List ℕ) (i next : ℕ) (s : List ℕ) → length width
 unfolding left laid store
 done widths values i next s h = rw (drop-of-length-le widths h)
 
--- what a turn needs of the numbers left
+-- what an iteration needs of the numbers left
 module _ (c : tie.In-loop Inv-loop μ-loop) where
   start : tie.Start Inv-loop μ-loop
   start = c .before .before .before .before .before

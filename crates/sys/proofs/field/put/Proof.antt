@@ -1,5 +1,5 @@
--- `sys::field::put` meets its contract. What holds at each turn: storing what is left of the number at the place reached gives the slice that the contract asks for.
--- A turn stores the lowest byte of what is left; the measure is how many bytes are left. Assumes nothing.
+-- `sys::field::put` meets its contract. What holds at each iteration: storing what is left of the number at the place reached gives the slice that the contract asks for.
+-- An iteration stores the lowest byte of what is left; the measure is how many bytes are left. Assumes nothing.
 use mathlib.Core.Path.{_≡_, refl, _∙_}
 use mathlib.Core.List.{List}
 use Prim.Native.Nat.{ℕ, suc, _+_, _-_, _/_, _%_, _≤_, _<_}

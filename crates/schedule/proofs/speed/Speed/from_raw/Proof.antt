@@ -1,6 +1,7 @@
 -- `Speed::from_raw` meets its contract: each arm knows the number's bits, and so the number; the last arm knows that it is none of
 -- the six. Assumes nothing.
-use Rattle.schedule.proofs.Raw.{of-bits, unnamed}
+use Rattle.sys.proofs.Signs.{of-bits}
+use Rattle.schedule.proofs.Raw.{unnamed}
 use Rattle.schedule.specs.Speed.{fromRaw}
 use Rattle.schedule.proofs.speed.Speed.from_raw.Statement.{statement}
 use Rattle.schedule.proofs.speed.Speed.from_raw.Tie as tie

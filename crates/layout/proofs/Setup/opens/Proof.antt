@@ -1,4 +1,4 @@
--- `layout::Setup::refusal` meets its contract: the limits come first in the list of tests, then 6, then 7, and within the limits the
+-- `layout::Setup::opens` meets its contract: the limits come first in the list of tests, then 6, then 7, and within the limits the
 -- layout's total fits. Assumes nothing.
 use mathlib.Core.Path.{_≡_, sym}
 use mathlib.Core.List.{[], _∷_}
@@ -10,8 +10,8 @@ use Rattle.layout.specs.Tests.{first}
 use Rattle.layout.specs.Opening.{layoutFor, totalOf, limits, blockLength, baseAddress, refusalOf, opened, opens}
 use Rattle.layout.proofs.Refusals.{first-early, first-late, passed-none, refused-some}
 use Rattle.layout.proofs.Limits.{limited, limited-small, layout-total}
-use Rattle.layout.proofs.Setup.refusal.Statement.{statement}
-use Rattle.layout.proofs.Setup.refusal.Tie as tie
+use Rattle.layout.proofs.Setup.opens.Statement.{statement}
+use Rattle.layout.proofs.Setup.opens.Tie as tie
 
 passing : (c : tie.After-enum-told) → first (limits (c .before .before .before .args .self)) ≡ none
 passing c = passed-none _ _ (c .before .before .test-limits .ensures) (c .enum-told .given .1)
@@ -56,8 +56,8 @@ returns-4 : tie.Need-returns-4
 unfolding opened first
 returns-4 c = rw (judged (c .before), c .if2 .left, c .before .before .before .before .layout-of .ensures)
 
-pub refusal-spec : {M : Type 1} → statement M
-refusal-spec =
+pub opens-spec : {M : Type 1} → statement M
+opens-spec =
     tie.close
     (tie.spec
     (λ c κs. search needs)
