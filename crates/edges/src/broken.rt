@@ -1,8 +1,7 @@
-// Records that break the list of refusal 8, one rule each, with some that look odd and pass. All start from this one: R (four
-// slots, eight packets of 100 bytes) at base 65,536, slot 0 InFlight, 1 Discarding, 2 in hand, 3 in the queue.
+// Records that break the list of refusal 8 (most break one rule alone), with some that look odd and pass. All start from this
+// one: R (four slots, eight packets of 100 bytes) at base 65,536, slot 0 InFlight, 1 Discarding, 2 in hand, 3 in the queue.
+use super::lines;
 use dispatch::make;
-use input::Mode;
-use input::Style;
 use layout::Setup;
 use layout::Underrun;
 use ring::Cell;
@@ -96,6 +95,7 @@ fn free_of(k: u64) -> [u8; 256] {
 
 fn free_len_of(k: u64) -> usize {
     match k {
+        1 => 0,
         10 => 0,
         11 => 2,
         12 => 2,
@@ -109,6 +109,7 @@ fn free_len_of(k: u64) -> usize {
 
 fn out_of(k: u64) -> usize {
     match k {
+        1 => 1,
         16 => 1,
         17 => 3,
         18 => 3,
@@ -119,6 +120,7 @@ fn out_of(k: u64) -> usize {
 
 fn hand_of(k: u64) -> Hand {
     match k {
+        1 => Hand::Idle,
         19 => Hand::Idle,
         21 => Hand::Held(4),
         22 => Hand::Silent(2, 2),
@@ -219,14 +221,6 @@ fn argument(kind: u64) -> u64 {
 // How many bytes of the block are lent.
 fn lent(k: u64) -> u64 {
     if k == 26 { 3969 } else { 3968 }
-}
-
-// Lines, of calls by value.
-pub fn lines() -> Mode {
-    Mode {
-        style: Style::Lines,
-        is_lent: false,
-    }
 }
 
 // The line of one call on one record; its number is the kind (docs/RUNS.md).

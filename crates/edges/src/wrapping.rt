@@ -1,5 +1,5 @@
 // Counters that wrap: a ring of two slots whose eight counters all stand at 2^64 - 1, through a whole cycle and an underrun.
-use super::broken::lines;
+use super::lines;
 use dispatch::Played;
 use dispatch::make;
 use layout::Setup;
@@ -12,8 +12,6 @@ use stream::Stream;
 use sys::Urb;
 use sys::field::put;
 use text::bytes;
-
-const LAST: u64 = 0xffff_ffff_ffff_ffff;
 
 fn setup() -> Setup {
     Setup {
@@ -30,14 +28,14 @@ fn setup() -> Setup {
 
 fn last_stats() -> IsoStats {
     IsoStats {
-        urbs_submitted: LAST,
-        urbs_completed: LAST,
-        bytes_submitted: LAST,
-        bytes_transferred: LAST,
-        short_bytes: LAST,
-        packet_errors: LAST,
-        urb_errors: LAST,
-        underruns: LAST,
+        urbs_submitted: u64::MAX,
+        urbs_completed: u64::MAX,
+        bytes_submitted: u64::MAX,
+        bytes_transferred: u64::MAX,
+        short_bytes: u64::MAX,
+        packet_errors: u64::MAX,
+        urb_errors: u64::MAX,
+        underruns: u64::MAX,
     }
 }
 
@@ -59,7 +57,7 @@ fn at_the_end(reply: Reply) -> Stream {
     }
 }
 
-// What the kernel writes into the first header before it is reaped: status -71, 100 bytes sent, two packets failed.
+// What the kernel writes into the first header before it is reaped: status -71, 100 bytes sent, error count 2.
 fn written(block: &mut [u8], count: u64) {
     if count != 4 {
         return;

@@ -8,22 +8,14 @@ use stream::Completion;
 use stream::Flags;
 use stream::IsoStats;
 use stream::Stream;
-use sys::field::get_u32;
-use sys::field::put_i32;
+use sys::field::to_unsigned;
+use sys::field::wide;
 use text::byte;
 use text::bytes;
 use text::marked;
 use text::named;
 use text::number;
 use text::word;
-ghost use Prim.Native.Nat.{_≤_};
-
-// Without a promise no sum with a byte would be known to fit.
-fn wide(value: u8) -> u64
-    ensures { λ r. ⌜ r ≤ 255 ⌝ }
-{
-    value as u64
-}
 
 fn bit(value: bool) -> u64 {
     if value { 1 } else { 0 }
@@ -51,16 +43,9 @@ fn stopped(out: &mut [u8], at: usize, count: usize, list: &[usize]) -> usize {
     end
 }
 
-// The 32 bits of a number.
-fn bits(value: i32) -> u32 {
-    let mut bytes = [0u8; 4];
-    put_i32(&mut bytes, 0, value);
-    get_u32(&bytes, 0)
-}
-
 // A signed number.
 fn status(out: &mut [u8], at: usize, value: i32) -> usize {
-    let low = bits(value) as u64;
+    let low = to_unsigned(value) as u64;
     if value < 0 {
         return named(out, at, b"-", 4294967296 - low);
     }

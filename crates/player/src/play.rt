@@ -13,7 +13,7 @@ use text::flush;
 use text::flush_half;
 
 // Whether there is more to read, and where reading and printing stand.
-struct Played {
+struct Progress {
     stand: Stand,
     is_more: bool,
 }
@@ -59,20 +59,20 @@ fn next(
     list: &mut [usize],
     block: &mut [u8],
     from: Stand,
-) -> Played {
+) -> Progress {
     let cursor = refill(input, from.cursor);
     let at = flush_half(out, from.at);
     let mode = from.mode;
     let stand = Stand { cursor, at, mode };
     if cursor.at >= cursor.end {
-        return Played {
+        return Progress {
             stand,
             is_more: false,
         };
     }
     let done = item(input, out, list, block, stand);
     let left = done.cursor;
-    Played {
+    Progress {
         stand: done,
         is_more: left.is_good,
     }
@@ -86,16 +86,16 @@ fn play(
     block: &mut [u8],
     from: Stand,
 ) -> Stand {
-    let mut played = Played {
+    let mut progress = Progress {
         stand: from,
         is_more: true,
     };
     let mut turns = u64::MAX;
-    while turns > 0 && played.is_more {
-        played = next(input, out, list, block, played.stand);
+    while turns > 0 && progress.is_more {
+        progress = next(input, out, list, block, progress.stand);
         turns -= 1;
     }
-    played.stand
+    progress.stand
 }
 
 // Says so if the input was bad, and writes what is left.

@@ -36,7 +36,7 @@ struct Going {
     is_more: bool,
 }
 
-// What every byte of a block is before the opening.
+// Sets every byte to 165, what a block holds before the opening.
 fn fill(block: &mut [u8]) {
     for k in 0..block.len() {
         block[k] = 165;

@@ -2,8 +2,6 @@
 use schedule::Depth;
 use schedule::Packets;
 use schedule::Speed;
-use sys::field::get_i32;
-use sys::field::put_u32;
 
 const WIDE: u64 = 0xffff_ffff;
 
@@ -76,13 +74,6 @@ pub fn u16_of(value: u64) -> u16 {
 
 pub fn u32_of(value: u64) -> u32 {
     (value % 4294967296) as u32
-}
-
-// The number whose 32 bits these are.
-pub fn i32_of(value: u32) -> i32 {
-    let mut bits = [0u8; 4];
-    put_u32(&mut bits, 0, value);
-    get_i32(&bits, 0)
 }
 
 pub fn speed_of(value: u64) -> Speed {

@@ -5,7 +5,6 @@ mod build;
 
 use arguments::argument_count;
 use arguments::depth_of;
-use arguments::i32_of;
 use arguments::is_narrow;
 use arguments::is_padded;
 use arguments::packets_of;
@@ -30,6 +29,7 @@ use schedule::Schedule;
 use schedule::Speed;
 use schedule::packet_interval_us;
 use schedule::plan;
+use sys::field::to_signed;
 use text::byte;
 use text::bytes;
 use text::flush_half;
@@ -154,7 +154,7 @@ fn refusal(q: [u64; 13]) -> Error {
 // The functions that give one number.
 fn one_number(q: [u64; 13]) -> u64 {
     match q[0] {
-        1 => speed_number(Speed::from_raw(i32_of(u32_of(q[1])))),
+        1 => speed_number(Speed::from_raw(to_signed(u32_of(q[1])))),
         2 => speed_number(Speed::from_device_probe(u8_of(q[1]), q[2] == 1)),
         _ => {
             let given = endpoint(1, u16_of(q[1]), 1);

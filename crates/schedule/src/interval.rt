@@ -3,7 +3,7 @@ use super::speed::ServiceInterval;
 use super::speed::Speed;
 use error::Error;
 ghost use mathlib.Core.Path.{_≡_};
-ghost use Prim.Native.Nat.{min};
+ghost use Prim.Native.Nat;
 ghost use Rattle.schedule.specs.Interval.{packetIntervalUs};
 
 pub enum Interval {
@@ -11,8 +11,9 @@ pub enum Interval {
     Refused(Error),
 }
 
-fn least(a: u32, b: u32) -> u32
-    ensures { λ r. ⌜ r ≡ min a b ⌝ }
+// The smaller of two numbers.
+fn min(a: u32, b: u32) -> u32
+    ensures { λ r. ⌜ r ≡ Nat.min a b ⌝ }
 {
     if a < b { a } else { b }
 }
@@ -31,7 +32,7 @@ pub fn packet_interval_us(speed: Speed, b_interval: u8) -> Interval
                 return Interval::Refused(Error::InvalidInterval);
             }
             let exponent = (b_interval - 1) as u32;
-            let intervals = least(1u32 << exponent, speed.max_intervals());
+            let intervals = min(1u32 << exponent, speed.max_intervals());
             Interval::Micros(base * intervals)
         }
     }

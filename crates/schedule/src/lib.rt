@@ -17,7 +17,8 @@ pub use speed::ServiceInterval;
 pub use speed::Speed;
 use sys::MAX_ISO_PACKETS_PER_URB;
 ghost use mathlib.Core.Path.{_≡_};
-ghost use Prim.Native.Nat.{_+_, _<_, _≤_, _^_, max};
+ghost use Prim.Native.Nat;
+ghost use Prim.Native.Nat.{_+_, _<_, _≤_, _^_};
 ghost use Rattle.schedule.specs.Derive.{ceilDiv, urbsOf, packetsOrOne, derived, planned};
 ghost use Rattle.schedule.specs.Product.{urbDurationUs, inFlightUs, memoryBytes};
 
@@ -56,8 +57,9 @@ fn div_ceil(a: usize, b: usize) -> usize
     (a + (b - 1)) / b
 }
 
-fn greatest(a: usize, b: usize) -> usize
-    ensures { λ r. ⌜ r ≡ max a b ⌝ }
+// The greater of two numbers.
+fn max(a: usize, b: usize) -> usize
+    ensures { λ r. ⌜ r ≡ Nat.max a b ⌝ }
 {
     if a < b { b } else { a }
 }
@@ -77,9 +79,9 @@ fn urbs(depth: Depth, interval: u32, packets: usize) -> usize
     ensures { λ r. ⌜ r ≡ urbsOf depth interval packets ⌝ }
 {
     match depth {
-        Depth::Urbs(n) => greatest(2, n),
-        Depth::Micros(us) => greatest(2, urbs_for(us as usize, interval, packets)),
-        Depth::Millis(ms) => greatest(2, urbs_for(ms as usize * 1000, interval, packets)),
+        Depth::Urbs(n) => max(2, n),
+        Depth::Micros(us) => max(2, urbs_for(us as usize, interval, packets)),
+        Depth::Millis(ms) => max(2, urbs_for(ms as usize * 1000, interval, packets)),
     }
 }
 

@@ -9,8 +9,6 @@ pub enum Product {
     Refused(Error),
 }
 
-const MAX: u64 = 0xffff_ffff_ffff_ffff;
-
 // Judges the whole product: with a zero among the three it is zero, however large the others are.
 pub fn product_of(a: u64, b: u64, c: u64) -> Product
     ensures { λ r. ⌜ r ≡ productOf (a * b * c) ⌝ }
@@ -24,11 +22,11 @@ pub fn product_of(a: u64, b: u64, c: u64) -> Product
     if c == 0 {
         return Product::Value(0);
     }
-    if MAX / b < a {
+    if u64::MAX / b < a {
         return Product::Refused(Error::ProductOverflow);
     }
     let ab = a * b;
-    if MAX / c < ab {
+    if u64::MAX / c < ab {
         return Product::Refused(Error::ProductOverflow);
     }
     Product::Value(ab * c)

@@ -1,7 +1,7 @@
--- Laws of a packet's descriptor in a block: what was stored is read back, a store apart from it leaves it, and its offsets are the running sums of its widths.
+-- Laws of a packet's descriptor in a block: what was stored is read back.
 -- The 12 bytes compute to the fields' own bytes, so each field is the law of `Fields` at its offset. Assumes nothing.
 use mathlib.Core.Path.{_≡_, refl, ap}
-use mathlib.Core.List.{List, [], _∷_}
+use mathlib.Core.List.{List}
 use Prim.Native.Nat.{ℕ, _+_, _≤_}
 use native.Mathlib.Omega.{arith}
 use borrow.Author.Tests.{le-leb}
@@ -11,13 +11,9 @@ use mir.Val.{Fits}
 use Rattle.sys.specs.declared.descriptor.IsoPacketDesc.{IsoPacketDesc}
 use Rattle.sys.specs.declared.descriptor.IsoPacketDescRead.the-variants.{Desc}
 use Rattle.sys.specs.Bytes.{le, laid, part, field, store}
-use Rattle.sys.specs.Descriptor.{lengthAt, descActualLengthAt, descStatusAt, descSize, descWidths, descBytes, descAt, descRead}
-use Rattle.sys.proofs.Store.{Apart, length-store}
-use Rattle.sys.proofs.Fields.{field-in, field-apart}
-use Rattle.sys.proofs.Headers.{starts}
-
-pub desc-offsets : starts 0 descWidths ≡ lengthAt ∷ descActualLengthAt ∷ descStatusAt ∷ descSize ∷ []
-desc-offsets = refl
+use Rattle.sys.specs.Descriptor.{lengthAt, descActualLengthAt, descStatusAt, descSize, descBytes, descAt, descRead}
+use Rattle.sys.proofs.Store.{length-store}
+use Rattle.sys.proofs.Fields.{field-in}
 
 pub length-descBytes : (d : IsoPacketDesc) → length (descBytes d) ≡ descSize
 unfolding descBytes laid le
@@ -49,14 +45,3 @@ module _ (at : ℕ) (d : IsoPacketDesc) (l : List ℕ) (room : at + descSize ≤
   desc-read-back fits =
       let e : length (store at (descBytes d) l) ≡ length l = length-store at (descBytes d) l in
       rw (le-leb (at + descSize) (length (store at (descBytes d) l)) (omega arith)) (ap Desc (desc-back fits))
-
--- a store apart from a descriptor leaves it
-pub desc-other : (at bt : ℕ) (vs l : List ℕ) → Apart at descSize bt (length vs) → descAt at (store bt vs l) ≡ descAt at l
-unfolding descAt
-desc-other at bt vs l apart =
-    let same : (i k : ℕ) → i + k ≤ descSize → field (at + i) k (store bt vs l) ≡ field (at + i) k l = λ i k h. field-apart at descSize i k bt vs l h apart in
-    λ i. record {
-      length = (same lengthAt 4 (omega arith)) i;
-      «actual_length» = (same descActualLengthAt 4 (omega arith)) i;
-      status = (same descStatusAt 4 (omega arith)) i;
-    }

@@ -1,13 +1,13 @@
 -- Laws of little-endian numbers in a block, each for every width: a number that fits its width is read back, and a byte more is 256 times the rest.
 -- Assumes nothing.
 use mathlib.Core.Path.{_≡_, refl, ap, _∙_}
-use mathlib.Core.List.{List, [], _∷_}
+use mathlib.Core.List.{List}
 use Prim.Native.Nat.{ℕ, zero, suc, _+_, _*_, _/_, _%_, _^_, _≤_, _<_}
 use native.Mathlib.Nat.{pow-suc, div-lt-iff-lt-mul, div-add-mod}
 use native.Mathlib.Omega.{arith}
 use lib.Dec.{lit<}
-use lib.ListN.{length, take, drop, getD}
-use lib.Seq.{drop-cons, getD-drop}
+use lib.ListN.{length, getD}
+use lib.Seq.{drop-cons}
 use Rattle.sys.specs.Bytes.{le, ofLe, part, field, store}
 use Rattle.sys.proofs.Store.{Apart, apart-in, part-in, part-same, part-other, part-part}
 
@@ -55,18 +55,3 @@ field-suc at k l h = rw (drop-cons l at 0 h)
 -- a number of k bytes with a byte more below it fits k + 1 bytes
 pub below-suc : (k v b : ℕ) → v < 256 ^ k → b < 256 → 256 * v + b < 256 ^ suc k
 below-suc k v b h hb = rw pow-suc (omega arith)
-
-pow-pos : (k : ℕ) → 0 < 256 ^ k
-pow-pos zero = lit< tt
-pow-pos (suc k) = rw pow-suc (let h : 0 < 256 ^ k = pow-pos k in omega arith)
-
--- k bytes say a number below 256^k
-below : (k : ℕ) (l : List ℕ) → ((i : ℕ) → getD l i 0 < 256) → ofLe (take k l) < 256 ^ k
-unfolding ofLe
-below zero l h = lit< tt
-below (suc k) [] h = pow-pos (suc k)
-below (suc k) (b ∷ l) h = below-suc k (ofLe (take k l)) b (below k l (λ i. h (suc i))) (h 0)
-
--- a field of k bytes is below 256^k
-pub field-below : (at k : ℕ) (l : List ℕ) → ((i : ℕ) → getD l i 0 < 256) → field at k l < 256 ^ k
-field-below at k l h = below k (drop at l) (λ i. rw getD-drop (h (at + i)))

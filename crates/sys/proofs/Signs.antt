@@ -1,12 +1,11 @@
--- Laws of two's complement at 32 bits: `signed` and `unsigned` undo each other, and -1 - x turns a number over, so that the code needs no wider type.
+-- Laws of two's complement at 32 bits: `signed` undoes `unsigned`, and -1 - x turns a number over, so that the code needs no wider type.
 -- Each goes by the sign. Assumes nothing.
 use mathlib.Core.Path.{_≡_, refl, sym, ap, _∙_}
-use mathlib.Core.Bool.{Bool, true, false, true≢false}
+use mathlib.Core.Bool.{true, false, true≢false}
 use Prim.Native.Nat.{ℕ, zero, suc, _-_, _^_, _≤_, _<_}
 use native.Mathlib.Nat.{zero-add}
 use native.Mathlib.Omega.{arith}
-use borrow.Author.Tests.{lt-ltb, le-ltb, ltb-true, ltb-false}
-use lib.Dec.{ltb}
+use borrow.Author.Tests.{lt-ltb, le-ltb, ltb-true}
 use lib.IntN.{ℤ, pos, negsuc, _-ℤ_}
 use lib.Signed.{mag, ltZ}
 use mir.Syntax.{w32}
@@ -32,15 +31,6 @@ signed-unsigned (negsuc n) f =
 pub unsigned-below : (z : ℤ) → SFits w32 z → unsigned z < 2 ^ 32
 unsigned-below (pos n) f = let h : n < 2 ^ 31 = f .sfits in omega arith
 unsigned-below (negsuc n) f = omega arith
-
--- the bits are those of the number that they say
-pub unsigned-signed : (n : ℕ) → n < 2 ^ 32 → unsigned (signed n) ≡ n
-unsigned-signed n h = by (ltb n (2 ^ 31)) refl where
-  by : (b : Bool) → ltb n (2 ^ 31) ≡ b → unsigned (signed n) ≡ n
-  by true e = ap unsigned (signed-small n (ltb-true n (2 ^ 31) e))
-  by false e =
-      let large : 2 ^ 31 ≤ n = ltb-false n (2 ^ 31) e in
-      ap unsigned (signed-large n large) ∙ omega arith
 
 -- the number that has these bits
 pub of-bits : (z : ℤ) (k : ℕ) → SFits w32 z → ofZ w32 z ≡ k → z ≡ toZ w32 k

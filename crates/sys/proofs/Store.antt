@@ -2,12 +2,12 @@
 -- covers is what was stored, and one apart from it is as it was. A store past the end vanishes, so only reading back asks for room. Assumes nothing.
 use mathlib.Core.Path.{_≡_, refl, sym, ap, _∙_}
 use mathlib.Core.Logic.{_≢_, _⊎_, inl, inr}
-use mathlib.Core.List.{List, [], _∷_, _++_, append-assoc, append-nil}
+use mathlib.Core.List.{List, [], _∷_, _++_, append-assoc}
 use Prim.Native.Nat.{ℕ, suc, _+_, _-_, _≤_}
-use native.Mathlib.Nat.{add-zero, add-suc, suc-add, add-assoc}
+use native.Mathlib.Nat.{add-zero, add-suc, suc-add}
 use native.Mathlib.Omega.{arith}
-use lib.ListN.{length, take, drop, take-append-drop, set, length-drop, drop-of-length-le}
-use lib.Seq.{take-add, length-sets, sets-eq, set-comm, drop-set-lt, drop-set-add, take-set-le, drop-at, take-append-le, drop-append-le, drop-drop, take-take, length-take-le, take-length}
+use lib.ListN.{length, take, drop, take-append-drop, set, length-drop}
+use lib.Seq.{length-sets, sets-eq, set-comm, drop-set-lt, drop-set-add, take-set-le, drop-at, take-append-le, drop-append-le, drop-drop, length-take-le, take-length}
 use borrow.Rule.Slice.PartMut.{putMid}
 use Rattle.sys.specs.Bytes.{part, store}
 
@@ -99,22 +99,12 @@ part-other at k bt [] l h = refl
 part-other at k bt (v ∷ vs) l h =
     part-other at k (suc bt) vs (set l bt v) (apart-rest at k bt (length vs) h) ∙ part-set at k l bt v (apart-first at k bt (length vs) h)
 
--- a store over the whole block
-pub store-all : (vs l : List ℕ) → length vs ≡ length l → store 0 vs l ≡ vs
-store-all vs l e =
-    let past : length l ≤ 0 + length vs = omega arith in
-    store-eq 0 vs l (omega arith) ∙ ap (λ (r : List ℕ). vs ++ r) (drop-of-length-le l past) ∙ append-nil vs
-
 -- a part that was lent and is given back with k bytes is a store of those
 pub put-back : (at k : ℕ) (vs l : List ℕ) → length vs ≡ k → at + k ≤ length l → putMid at k l vs ≡ store at vs l
 put-back at k vs l e room =
     let covered : at + length vs ≤ length l = omega arith in
     let rest : drop k (drop at l) ≡ drop (at + length vs) l = drop-drop k at l ∙ ap (λ (n : ℕ). drop (at + n) l) (sym e) in
     ap (λ (r : List ℕ). take at l ++ (vs ++ r)) rest ∙ sym (append-assoc (take at l) vs (drop (at + length vs) l)) ∙ sym (store-eq at vs l covered)
-
--- five lists joined
-regroup : (a b c d e : List ℕ) → a ++ ((b ++ c ++ d) ++ e) ≡ (a ++ b) ++ c ++ (d ++ e)
-regroup a b c d e = simp append-assoc
 
 -- a part of a part
 pub part-part : (at n i k : ℕ) (l : List ℕ) → i + k ≤ n → at + n ≤ length l → part i k (part at n l) ≡ part (at + i) k l
@@ -124,25 +114,3 @@ part-part at n i k l h room =
     sym (part-append-left i k (take n (drop at l)) (drop n (drop at l)) covered)
     ∙ ap (part i k) (take-append-drop n (drop at l))
     ∙ ap (take k) (drop-drop i at l)
-
--- a store into a part that is given back is a store into the whole
-pub store-part : (at k i : ℕ) (vs l : List ℕ) → i + length vs ≤ k → at + k ≤ length l → store at (store i vs (part at k l)) l ≡ store (at + i) vs l
-store-part at k i vs l h room =
-    let rest = drop at l in
-    let j = i + length vs in
-    let inside : k ≤ length (drop at l) = simp length-drop (omega arith) in
-    let wide : length (part at k l) ≡ k = length-take-le k (drop at l) inside in
-    let fits : i + length vs ≤ length (part at k l) = omega arith in
-    let long : length (store i vs (part at k l)) ≡ k = length-store i vs (part at k l) ∙ wide in
-    let covered : i + length vs ≤ length (take k (drop at l)) = fits in
-    -- after the bytes stored: the part's own end, then what lies behind the part
-    let behind : drop j (part at k l) ++ drop k rest ≡ drop (at + i + length vs) l =
-    sym (drop-append-le j (take k rest) (drop k rest) covered) ∙ ap (drop j) (take-append-drop k rest) ∙ drop-drop j at l
-    ∙ ap (λ (n : ℕ). drop n l) (sym (add-assoc at i (length vs))) in
-    let before : take at l ++ take i (part at k l) ≡ take (at + i) l =
-    ap (λ (r : List ℕ). take at l ++ r) (take-take i k rest (omega arith)) ∙ sym (take-add at i l) in
-    sym (put-back at k (store i vs (part at k l)) l long room)
-    ∙ ap (λ (r : List ℕ). take at l ++ (r ++ drop k rest)) (store-eq i vs (part at k l) fits)
-    ∙ regroup (take at l) (take i (part at k l)) vs (drop j (part at k l)) (drop k rest)
-    ∙ (λ n. before n ++ vs ++ behind n)
-    ∙ sym (store-eq (at + i) vs l (omega arith))

@@ -18,7 +18,7 @@ pub fn has_room(s: &[u8], at: usize, size: usize) -> bool
 }
 
 // A byte as a wider number.
-fn wide(byte: u8) -> u64
+pub fn wide(byte: u8) -> u64
     ensures { λ r. ⌜ (r ≡ byte) × (r < 256) ⌝ }
 {
     byte as u64
@@ -54,7 +54,7 @@ pub fn put(s: &mut [u8], at: usize, width: usize, value: u64)
 }
 
 // The signed number that stands as `bits`.
-fn to_signed(bits: u32) -> i32
+pub fn to_signed(bits: u32) -> i32
     ensures { λ r. ⌜ r ≡ signed bits ⌝ }
 {
     if bits < 2147483648 {
@@ -114,36 +114,12 @@ pub fn non_negative(x: i32) -> u64
     if x < 0 { 0 } else { x as u64 }
 }
 
-// Internal: stores a byte at `at`.
-pub fn put_u8(s: &mut [u8], at: usize, value: u8)
-    requires { ⌜ at + 1 ≤ length (now s) ⌝ }
-    ensures { λ _. ⌜ now (s .exit) ≡ store at (le 1 value) (now (s .entry)) ⌝ }
-{
-    put(s, at, 1, value as u64)
-}
-
 // Internal: stores an unsigned number in the 4 bytes at `at`.
 pub fn put_u32(s: &mut [u8], at: usize, value: u32)
     requires { ⌜ at + 4 ≤ length (now s) ⌝ }
     ensures { λ _. ⌜ now (s .exit) ≡ store at (le 4 value) (now (s .entry)) ⌝ }
 {
     put(s, at, 4, value as u64)
-}
-
-// Internal: stores an unsigned number in the 8 bytes at `at`.
-pub fn put_u64(s: &mut [u8], at: usize, value: u64)
-    requires { ⌜ at + 8 ≤ length (now s) ⌝ }
-    ensures { λ _. ⌜ now (s .exit) ≡ store at (le 8 value) (now (s .entry)) ⌝ }
-{
-    put(s, at, 8, value)
-}
-
-// Internal: stores a signed number in the 4 bytes at `at`.
-pub fn put_i32(s: &mut [u8], at: usize, value: i32)
-    requires { ⌜ at + 4 ≤ length (now s) ⌝ }
-    ensures { λ _. ⌜ now (s .exit) ≡ store at (le 4 (unsigned value)) (now (s .entry)) ⌝ }
-{
-    put_u32(s, at, to_unsigned(value))
 }
 
 // Internal: stores numbers one after the other from `at` on, each in as many bytes as its width says.

@@ -7,11 +7,11 @@ use Rattle.player.proofs.play.play.Statement.{statement}
 use Rattle.player.proofs.play.play.Tie as tie
 
 abbrev Inv-loop : tie.InvT-loop
-Inv-loop input₀ out₀ list₀ block₀ played₀ turns₀ input out list block played turns =
+Inv-loop input₀ out₀ list₀ block₀ progress₀ turns₀ input out list block progress turns =
     (length input ≡ length input₀) × (length out ≡ length out₀) × (length list ≡ length list₀) × (length block ≡ length block₀)
 
 abbrev μ-loop : tie.MeasureT-loop
-μ-loop input₀ out₀ list₀ block₀ played₀ turns₀ input out list block played turns = turns
+μ-loop input₀ out₀ list₀ block₀ progress₀ turns₀ input out list block progress turns = turns
 
 pub play-spec : {M : Type 1} → statement M
 play-spec =

@@ -24,12 +24,12 @@ returns-2 c =
     rw (from-known _ _ _ _ (c .before .before .before .before .before .service-interval-us .ensures) (c .before .before .before .base .given .1))
     (simp (le-ltb _ _ (c .before .if1 .left), lt-ltb _ _ (c .if2 .taken)))
 
--- what `least` gave is the paper's multiplier
-multiplied : (c : tie.After-least) → c .least .result ≡ multiplier (c .before .before .before .before .before .before .before .before .args .b-interval) (maxIntervals (c .before .before .before .before .before .before .before .before .args .speed))
+-- what `min` gave is the paper's multiplier
+multiplied : (c : tie.After-min) → c .min .result ≡ multiplier (c .before .before .before .before .before .before .before .before .args .b-interval) (maxIntervals (c .before .before .before .before .before .before .before .before .args .speed))
 multiplied c =
     let b = c .before .before .before .before .before .before .before .before .args .b-interval in
     let h : b - 1 < 16 = omega arith in
-    c .least .ensures ∙ ap₂ min (shifted (b - 1) h) (c .before .max-intervals .ensures)
+    c .min .ensures ∙ ap₂ min (shifted (b - 1) h) (c .before .max-intervals .ensures)
 
 mul-t13 : tie.Need-mul-t13
 mul-t13 c =
@@ -37,7 +37,7 @@ mul-t13 c =
     let s = d .before .before .before .args .speed in
     record {
       fits =
-          interval-fits (d .base .given .0 .0) (maxIntervals s) (c .least .result)
+          interval-fits (d .base .given .0 .0) (maxIntervals s) (c .min .result)
           (base-bounds s _ _ (d .before .before .service-interval-us .ensures) (d .base .given .1) .1)
           (cap-bounds s .1)
           (rw (multiplied c) (omega arith));
