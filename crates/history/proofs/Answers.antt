@@ -62,27 +62,15 @@ and-false : (b : Bool) → (b && false) ≡ false
 and-false true = refl
 and-false false = refl
 
-pub says-6 : (s : Setup) (c : Call) (log : List Entry) → Says s (record { call = c; answer = Answer.Refused Error.BlockLength }) log none none none none false false
-unfolding acceptance notice fromHand sixOrNine said given
-says-6 s c log =
+pub says-shut : (s : Setup) (c : Call) (e : Error) (log : List Entry) → sixOrNine (Answer.Refused e) ≡ true → eqb (numberOf e) 13 ≡ false → committedBack (Answer.Refused e) ≡ false → Says s (record { call = c; answer = Answer.Refused e }) log none none none none false false
+unfolding acceptance notice fromHand said given committedBack
+says-shut s c e log shut stays kept =
     record {
-      acc-is = shut-accepted (asked c .accepted) (lastSubmit log);
-      ntc-is = refl;
+      acc-is = rw shut (shut-accepted (asked c .accepted) (lastSubmit log));
+      ntc-is = rw stays;
       nam-is = refl;
       sub-is = refl;
-      back-is = simp and-false;
-      stp-is = refl;
-    }
-
-pub says-9 : (s : Setup) (c : Call) (log : List Entry) → Says s (record { call = c; answer = Answer.Refused Error.WrongHand }) log none none none none false false
-unfolding acceptance notice fromHand sixOrNine said given
-says-9 s c log =
-    record {
-      acc-is = shut-accepted (asked c .accepted) (lastSubmit log);
-      ntc-is = refl;
-      nam-is = refl;
-      sub-is = refl;
-      back-is = simp and-false;
+      back-is = rw (kept, shut) (simp and-false);
       stp-is = refl;
     }
 

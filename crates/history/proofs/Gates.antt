@@ -26,11 +26,11 @@ use Rattle.ledger.specs.Commit.{send}
 use Rattle.ledger.proofs.Valid.{Valid}
 use Rattle.ledger.proofs.Moves.{held-not-free, times-here}
 use Rattle.history.specs.History.{Call}
-use Rattle.history.specs.Words.{Entry, said, asked, nothingAsked}
+use Rattle.history.specs.Words.{Entry, said, asked, nothingAsked, sixOrNine}
 use Rattle.history.proofs.Entries.{Says}
 use Rattle.history.proofs.Hands.{sends}
 use Rattle.history.proofs.Totals.{Moves, still}
-use Rattle.history.proofs.Answers.{committedBack, says-plain, says-6, says-9}
+use Rattle.history.proofs.Answers.{committedBack, says-plain, says-shut}
 use Rattle.history.proofs.Effects.{Agrees, quiet, names-again, brings-back, takes}
 
 -- After a call that gave x, from a ledger with totals t: the words agree, the counters moved by the call's figures, underruns are t's.
@@ -65,13 +65,17 @@ module _ (s : Setup) (l : Ledger) (v : Valid (s .slots) l) (log : List Entry) (a
   hand-away i h p = v .queued i h ∙ ap one (held-not-free l i p)
 
   -- 6 and 9
-  pub at-6 : (c : Call) (lent : List ℕ) → After s c log (l .totals) (refused Error.BlockLength l lent)
+  at-shut : (c : Call) (lent : List ℕ) (e : Error) → Says s (record { call = c; answer = Answer.Refused e }) log none none none none false false → After s c log (l .totals) (refused e l lent)
   unfolding refused
-  at-6 c lent = record { agrees = quiet _ a (says-6 s c log); moves = still (says-6 s c log) (l .totals); underruns-kept = refl }
+  at-shut c lent e says = record { agrees = quiet _ a says; moves = still says (l .totals); underruns-kept = refl }
+
+  pub at-6 : (c : Call) (lent : List ℕ) → After s c log (l .totals) (refused Error.BlockLength l lent)
+  unfolding sixOrNine said committedBack
+  at-6 c lent = at-shut c lent Error.BlockLength (says-shut s c Error.BlockLength log refl refl refl)
 
   pub at-9 : (c : Call) (lent : List ℕ) → After s c log (l .totals) (refused Error.WrongHand l lent)
-  unfolding refused
-  at-9 c lent = record { agrees = quiet _ a (says-9 s c log); moves = still (says-9 s c log) (l .totals); underruns-kept = refl }
+  unfolding sixOrNine said committedBack
+  at-9 c lent = at-shut c lent Error.WrongHand (says-shut s c Error.WrongHand log refl refl refl)
 
   pub on-block : (c : Call) (block : List ℕ) (next : Next) → After s c log (l .totals) next → After s c log (l .totals) (onBlock s l block next)
   unfolding onBlock

@@ -44,6 +44,20 @@ all-discarded home = tt
 all-discarded out = refl
 all-discarded discarded = refl
 
+module _ {s : Setup} {e : Entry} {log : List Entry} {marks : List Mark} (m : MarksAgree s marks log) where
+  -- slot i marked anew: what the log says of it fits the new mark, and of every other slot it says what it said
+  marks-set : (i : ℕ) (to : Mark) → i < length marks → isOut s i (e ∷ log) ≡ gone to → Discards to (afterDiscard i (e ∷ log)) → ((j : ℕ) → (j ≡ i → ⊥) → (isOut s j (e ∷ log) ≡ isOut s j log) × (afterDiscard j (e ∷ log) ≡ afterDiscard j log)) → MarksAgree s (set marks i to) (e ∷ log)
+  marks-set i to h here discards others =
+      record { out-is = λ j. out-at j (ℕ-discrete j i); discard-is = λ j. discards-at j (ℕ-discrete j i) }
+    where
+      out-at : (j : ℕ) → Dec (j ≡ i) → isOut s j (e ∷ log) ≡ gone (getD (set marks i to) j home)
+      out-at j (yes p) = rw (p, getD-set-same marks i to home h) here
+      out-at j (no p) = rw (others j p .0, getD-set-other marks i j to home p) (m .out-is j)
+
+      discards-at : (j : ℕ) → Dec (j ≡ i) → Discards (getD (set marks i to) j home) (afterDiscard j (e ∷ log))
+      discards-at j (yes p) = rw (p, getD-set-same marks i to home h) discards
+      discards-at j (no p) = rw (others j p .1, getD-set-other marks i j to home p) (m .discard-is j)
+
 module _ {s : Setup} {e : Entry} {log : List Entry} {nam sub : Option ℕ} {marks : List Mark} (m : MarksAgree s marks log) where
   -- neither accepted nor noticed nor stopped
   pub marks-kept : {back : Bool} → Says s e log none none nam sub back false → MarksAgree s marks (e ∷ log)
@@ -58,32 +72,15 @@ module _ {s : Setup} {e : Entry} {log : List Entry} {nam sub : Option ℕ} {mark
   pub marks-accepted : {back : Bool} (i : ℕ) → Says s e log (some i) none nam sub back false → i < length marks → MarksAgree s (set marks i out) (e ∷ log)
   unfolding isSlot gone Discards
   marks-accepted i w h =
-      record { out-is = λ j. out-at j (ℕ-discrete j i); discard-is = λ j. discards-at j (ℕ-discrete j i) }
-    where
-      out-at : (j : ℕ) → Dec (j ≡ i) → isOut s j (e ∷ log) ≡ gone (getD (set marks i out) j home)
-      out-at j (yes p) = rw (p, out-next w i, eq-eqb i i refl, getD-set-same marks i out home h)
-      out-at j (no p) =
-          rw (out-next w j, ne-eqb i j (λ z. p (sym z)), getD-set-other marks i j out home p) (m .out-is j)
-
-      discards-at : (j : ℕ) → Dec (j ≡ i) → Discards (getD (set marks i out) j home) (afterDiscard j (e ∷ log))
-      discards-at j (yes p) = rw (p, discard-next w i, eq-eqb i i refl, getD-set-same marks i out home h) refl
-      discards-at j (no p) =
-          rw (discard-next w j, ne-eqb i j (λ z. p (sym z)), getD-set-other marks i j out home p) (m .discard-is j)
+      marks-set m i out h (rw (out-next w i, eq-eqb i i refl)) (rw (discard-next w i, eq-eqb i i refl) refl)
+      (λ j p. (rw (out-next w j, ne-eqb i j (λ z. p (sym z))), rw (discard-next w j, ne-eqb i j (λ z. p (sym z)))))
 
   -- slot i, out, noticed
   pub marks-noticed : (i : ℕ) → Says s e log none (some i) nam sub false false → i < length marks → MarksAgree s (set marks i home) (e ∷ log)
   unfolding isSlot gone Discards
   marks-noticed i w h =
-      record { out-is = λ j. out-at j (ℕ-discrete j i); discard-is = λ j. discards-at j (ℕ-discrete j i) }
-    where
-      out-at : (j : ℕ) → Dec (j ≡ i) → isOut s j (e ∷ log) ≡ gone (getD (set marks i home) j home)
-      out-at j (yes p) = rw (p, out-next w i, eq-eqb i i refl, getD-set-same marks i home home h)
-      out-at j (no p) =
-          rw (out-next w j, ne-eqb i j (λ z. p (sym z)), getD-set-other marks i j home home p) (m .out-is j)
-
-      discards-at : (j : ℕ) → Dec (j ≡ i) → Discards (getD (set marks i home) j home) (afterDiscard j (e ∷ log))
-      discards-at j (yes p) = rw (p, getD-set-same marks i home home h) tt
-      discards-at j (no p) = rw (discard-next w j, getD-set-other marks i j home home p) (m .discard-is j)
+      marks-set m i home h (rw (out-next w i, eq-eqb i i refl)) tt
+      (λ j p. (rw (out-next w j, ne-eqb i j (λ z. p (sym z))), discard-next w j))
 
   -- stopped: every slot out is discarded
   pub marks-stopped : Says s e log none none nam sub false true → MarksAgree s (discardAll marks) (e ∷ log)
