@@ -21,7 +21,7 @@ use Rattle.ledger.specs.Step.{Next, refused, onBlock, onHeld}
 use Rattle.ledger.specs.Record.{view, call}
 use Rattle.ledger.specs.Gives.{Gives}
 use Rattle.ledger.proofs.Calls.{Told, call-moved, call-refused, gate-opened, gate-refused, on-block}
-use Rattle.commit.specs.declared.hand.InHand.{InHand}
+use Rattle.commit.specs.declared.held.InHand.{InHand}
 use Rattle.commit.specs.Held.{slotOf, past, slotInHand}
 
 -- what the three commits have in common: a rule for the slot in hand, behind 6 and 9

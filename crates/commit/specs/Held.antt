@@ -5,7 +5,7 @@ use Rattle.ring.specs.declared.Hand.{Hand}
 use Rattle.stream.specs.declared.Gate.{Gate}
 use Rattle.stream.specs.declared.Stream.{Stream}
 use Rattle.stream.specs.Sound.{gateOf}
-use Rattle.commit.specs.declared.hand.InHand.{InHand}
+use Rattle.commit.specs.declared.held.InHand.{InHand}
 
 -- The slot of a hand that is Held, else 9.
 unfoldable pub slotOf : Hand → InHand

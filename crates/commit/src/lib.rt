@@ -1,16 +1,16 @@
 // commit, commit_full, commit_packets: the slot in hand gets its packet lengths, and the host is to submit it.
-mod hand;
+mod held;
 
 use error::Error;
-use hand::InHand;
-use hand::put_back;
-use hand::send;
-use hand::slot_in_hand;
+use hand::refused;
+use held::InHand;
+use held::put_back;
+use held::send;
+use held::slot_in_hand;
 use layout::Setup;
 use slot::any_above;
 use slot::set_packet_lengths;
 use slot::set_packet_lengths_exact;
-use stream::Answer;
 use stream::Reply;
 use stream::Stream;
 ghost use mathlib.Core.Bool.{true};
@@ -69,10 +69,7 @@ pub fn commit(s: Stream, bytes: usize, block: &mut [u8]) -> Reply
 {
     match slot_in_hand(s, block.len()) {
         InHand::Slot(i) => commit_held(s, i, bytes, block),
-        InHand::Refused(e) => Reply {
-            stream: s,
-            answer: Answer::Refused(e),
-        },
+        InHand::Refused(e) => refused(s, e),
     }
 }
 
@@ -86,10 +83,7 @@ pub fn commit_full(s: Stream, block: &mut [u8]) -> Reply
             let capacity = slot_capacity(setup);
             commit_held(s, i, capacity, block)
         }
-        InHand::Refused(e) => Reply {
-            stream: s,
-            answer: Answer::Refused(e),
-        },
+        InHand::Refused(e) => refused(s, e),
     }
 }
 
@@ -99,9 +93,6 @@ pub fn commit_packets(s: Stream, lengths: &[usize], block: &mut [u8]) -> Reply
 {
     match slot_in_hand(s, block.len()) {
         InHand::Slot(i) => packets_held(s, i, lengths, block),
-        InHand::Refused(e) => Reply {
-            stream: s,
-            answer: Answer::Refused(e),
-        },
+        InHand::Refused(e) => refused(s, e),
     }
 }

@@ -2,6 +2,8 @@
 mod scan;
 
 use error::Error;
+use hand::put_back;
+use hand::refused;
 use ring::Hand;
 use ring::Ring;
 use scan::discard_all;
@@ -10,26 +12,12 @@ use stream::Flags;
 use stream::Gate;
 use stream::Reply;
 use stream::Stream;
-ghost use mathlib.Core.Bool.{true};
 ghost use mathlib.Core.List.{[]};
 ghost use mathlib.Core.Path.{_≡_};
-ghost use Rattle.ring.specs.Slots.{holds};
 ghost use Rattle.stream.specs.Parts.{withState};
-ghost use Rattle.stream.specs.Sound.{sound};
-ghost use Rattle.ledger.specs.Ledger.{withHand, returned};
 ghost use Rattle.ledger.specs.Control.{giveBack, start as startRule, stop as stopRule, finish as finishRule};
-ghost use Rattle.ledger.specs.Record.{view, stored, call};
+ghost use Rattle.ledger.specs.Record.{call};
 ghost use Rattle.control.specs.Gate.{idleGate};
-
-// Internal: refused, and nothing differs.
-fn refused(s: Stream, e: Error) -> Reply
-    ensures { λ r. ⌜ (r .answer ≡ Answer.Refused e) × (r .stream ≡ s) ⌝ }
-{
-    Reply {
-        stream: s,
-        answer: Answer::Refused(e),
-    }
-}
 
 // Internal: refusal 8, then 9 for a hand that is not Idle.
 fn idle_gate(s: Stream) -> Gate
@@ -60,16 +48,6 @@ fn with_state(s: Stream, ring: Ring, hand: Hand, flags: Flags) -> Stream
         flags,
         stats,
     }
-}
-
-// Internal: slot i, which is in hand, returned to the queue, and the hand Idle.
-pub fn put_back(s: Stream, i: usize) -> Stream
-    requires { ⌜ (sound s ≡ true) × (holds (s .hand) i ≡ true) ⌝ }
-    ensures { λ r. ⌜ r ≡ stored s (withHand Hand.Idle (returned i (view s))) ⌝ }
-{
-    let ring = s.ring;
-    let flags = s.flags;
-    with_state(s, ring.release(i), Hand::Idle, flags)
 }
 
 // Returns the slot in hand to the queue, unsent.

@@ -5,6 +5,7 @@ mod status;
 use counters::totals_after;
 use error::ErrnoContext;
 use error::Error;
+use hand::refused;
 use notice::complete;
 use notice::slot_of_urb;
 use ring::Found;
@@ -73,14 +74,8 @@ fn noticed(s: Stream, block: &[u8], i: usize) -> Reply
     let cell = states[i];
     let state = cell.state;
     match state {
-        SlotState::Free => Reply {
-            stream: s,
-            answer: Answer::Refused(Error::StrayNotice),
-        },
-        SlotState::Filling => Reply {
-            stream: s,
-            answer: Answer::Refused(Error::StrayNotice),
-        },
+        SlotState::Free => refused(s, Error::StrayNotice),
+        SlotState::Filling => refused(s, Error::StrayNotice),
         SlotState::InFlight => reaped_slot(s, block, i, false),
         SlotState::Discarding => reaped_slot(s, block, i, true),
     }
@@ -111,10 +106,7 @@ fn by_errno(s: Stream, errno: u32) -> Reply
             answer: Answer::Nothing,
         };
     }
-    Reply {
-        stream: s,
-        answer: Answer::Refused(Error::from_errno(errno, ErrnoContext::Other)),
-    }
+    refused(s, Error::from_errno(errno, ErrnoContext::Other))
 }
 
 // Takes the kernel's reply: an errno, or the address of a URB that is done. The block is only read.
@@ -122,10 +114,7 @@ pub fn reaped(s: Stream, reply: Reaping, block: &[u8]) -> Reply
     ensures { λ r. ⌜ (r .answer ≡ call (reapedRule reply) s (now (block .entry)) .answer) × (r .stream ≡ call (reapedRule reply) s (now (block .entry)) .stream) × (now (block .entry) ≡ call (reapedRule reply) s (now (block .entry)) .lent) ⌝ }
 {
     match s.gate(block.len()) {
-        Gate::Refused(e) => Reply {
-            stream: s,
-            answer: Answer::Refused(e),
-        },
+        Gate::Refused(e) => refused(s, e),
         Gate::Open => {
             let hand = s.hand;
             match hand {
@@ -133,18 +122,9 @@ pub fn reaped(s: Stream, reply: Reaping, block: &[u8]) -> Reply
                     Reaping::Errno(errno) => by_errno(s, errno),
                     Reaping::Address(address) => by_address(s, block, address),
                 },
-                Hand::Held(_) => Reply {
-                    stream: s,
-                    answer: Answer::Refused(Error::WrongHand),
-                },
-                Hand::Sending(_) => Reply {
-                    stream: s,
-                    answer: Answer::Refused(Error::WrongHand),
-                },
-                Hand::Silent(_, _) => Reply {
-                    stream: s,
-                    answer: Answer::Refused(Error::WrongHand),
-                },
+                Hand::Held(_) => refused(s, Error::WrongHand),
+                Hand::Sending(_) => refused(s, Error::WrongHand),
+                Hand::Silent(_, _) => refused(s, Error::WrongHand),
             }
         }
     }

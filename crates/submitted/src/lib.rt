@@ -1,6 +1,8 @@
 // The call submitted: what the kernel answered to the slot in hand.
 use error::ErrnoContext;
 use error::Error;
+use hand::put_back;
+use hand::refused;
 use layout::Setup;
 use notice::buffer_bytes;
 use ring::Hand;
@@ -12,8 +14,6 @@ use stream::Stream;
 use stream::Submission;
 use turn::silence_front;
 use turn::take_front;
-use turn::with_hand;
-use turn::wrong_hand;
 ghost use mathlib.Core.Bool.{true};
 ghost use mathlib.Core.List.{[]};
 ghost use mathlib.Core.Path.{_≡_};
@@ -65,15 +65,10 @@ fn fail(s: Stream, i: usize, errno: u32) -> Reply
     requires { ⌜ (sound s ≡ true) × (holds (s .hand) i ≡ true) ⌝ }
     ensures { λ r. ⌜ Gives s (submitFailed (s .setup) i errno (view s) []) r [] ⌝ }
 {
-    let setup = s.setup;
-    let ring = s.ring;
-    let bytes = payload_bytes(setup);
+    let bytes = payload_bytes(s.setup);
     let refusal = Error::from_errno(errno, ErrnoContext::Submit { bytes });
-    let back = ring.release(i);
-    Reply {
-        stream: with_hand(s, back, Hand::Idle),
-        answer: Answer::Refused(refusal),
-    }
+    let back = put_back(s, i);
+    refused(back, refusal)
 }
 
 // Internal: after a silent slot was accepted, the chain's next one, or a slot for the host.
@@ -118,15 +113,12 @@ pub fn submitted(s: Stream, reply: Submission, block: &mut [u8]) -> Reply
     ensures { λ r. ⌜ (r .answer ≡ call (submittedRule reply) s (now (block .entry)) .answer) × (r .stream ≡ call (submittedRule reply) s (now (block .entry)) .stream) × (now (block .exit) ≡ call (submittedRule reply) s (now (block .entry)) .lent) ⌝ }
 {
     match s.gate(block.len()) {
-        Gate::Refused(e) => Reply {
-            stream: s,
-            answer: Answer::Refused(e),
-        },
+        Gate::Refused(e) => refused(s, e),
         Gate::Open => {
             let hand = s.hand;
             match hand {
-                Hand::Idle => wrong_hand(s),
-                Hand::Held(_) => wrong_hand(s),
+                Hand::Idle => refused(s, Error::WrongHand),
+                Hand::Held(_) => refused(s, Error::WrongHand),
                 Hand::Sending(i) => sent(s, reply, block, i),
                 Hand::Silent(i, left) => silent(s, reply, block, i, left),
             }

@@ -1,7 +1,7 @@
 // The front slot of the queue: for the host, or silenced.
+use hand::with_hand;
 use ring::Found;
 use ring::Hand;
-use ring::Ring;
 use slot::fill_silence;
 use stream::Answer;
 use stream::Reply;
@@ -11,27 +11,10 @@ ghost use mathlib.Core.List.{[]};
 ghost use mathlib.Core.Path.{_≡_};
 ghost use lib.ListN.{length};
 ghost use Rattle.layout.specs.Opening.{totalOf};
-ghost use Rattle.stream.specs.Parts.{withState};
 ghost use Rattle.stream.specs.Sound.{sound};
 ghost use Rattle.ledger.specs.Record.{view};
 ghost use Rattle.ledger.specs.Turn.{takeFront, silenceFront};
 ghost use Rattle.ledger.specs.Gives.{Gives};
-
-// Internal: the record with another ring and hand.
-pub fn with_hand(s: Stream, ring: Ring, hand: Hand) -> Stream
-    ensures { λ r. ⌜ r ≡ withState s ring hand (s .flags) (s .stats) ⌝ }
-{
-    let setup = s.setup;
-    let flags = s.flags;
-    let stats = s.stats;
-    Stream {
-        setup,
-        ring,
-        hand,
-        flags,
-        stats,
-    }
-}
 
 // Internal: takes the front slot for the host, if there is one.
 pub fn take_front(s: Stream) -> Reply

@@ -4,10 +4,9 @@ mod front;
 use error::Error;
 pub use front::silence_front;
 pub use front::take_front;
-pub use front::with_hand;
+use hand::refused;
 use layout::Underrun;
 use ring::Hand;
-use stream::Answer;
 use stream::Flags;
 use stream::Gate;
 use stream::Reply;
@@ -66,13 +65,7 @@ fn on_underrun(s: Stream, block: &mut [u8]) -> Reply
     match policy {
         Underrun::Continue => take_front(counted),
         Underrun::FillSilence => silence_front(counted, block, 1),
-        Underrun::Error => {
-            let stats = counted.stats;
-            Reply {
-                stream: counted,
-                answer: Answer::Refused(Error::Underrun(stats.underruns)),
-            }
-        }
+        Underrun::Error => refused(counted, Error::Underrun(counted.stats.underruns)),
     }
 }
 
@@ -88,32 +81,19 @@ fn turn_idle(s: Stream, block: &mut [u8]) -> Reply
     }
 }
 
-// Internal: refusal 9.
-pub fn wrong_hand(s: Stream) -> Reply
-    ensures { λ r. ⌜ r ≡ record { stream = s; answer = Answer.Refused Error.WrongHand } ⌝ }
-{
-    Reply {
-        stream: s,
-        answer: Answer::Refused(Error::WrongHand),
-    }
-}
-
 // The next slot for the host, or a silent one to submit where the stream has drained and the policy says so.
 pub fn turn(s: Stream, block: &mut [u8]) -> Reply
     ensures { λ r. ⌜ (r .answer ≡ call turnRule s (now (block .entry)) .answer) × (r .stream ≡ call turnRule s (now (block .entry)) .stream) × (now (block .exit) ≡ call turnRule s (now (block .entry)) .lent) ⌝ }
 {
     match s.gate(block.len()) {
-        Gate::Refused(e) => Reply {
-            stream: s,
-            answer: Answer::Refused(e),
-        },
+        Gate::Refused(e) => refused(s, e),
         Gate::Open => {
             let hand = s.hand;
             match hand {
                 Hand::Idle => turn_idle(s, block),
-                Hand::Held(_) => wrong_hand(s),
-                Hand::Sending(_) => wrong_hand(s),
-                Hand::Silent(_, _) => wrong_hand(s),
+                Hand::Held(_) => refused(s, Error::WrongHand),
+                Hand::Sending(_) => refused(s, Error::WrongHand),
+                Hand::Silent(_, _) => refused(s, Error::WrongHand),
             }
         }
     }

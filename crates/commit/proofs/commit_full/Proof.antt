@@ -38,9 +38,10 @@ returns c =
 returns-2 : tie.Need-returns-2
 unfolding commitFull commit
 returns-2 c =
-    let d = c .before .before .before .before .before in
-    slot-refused (λ st k l b. commitHeld st (capacityOf st) k l b) (d .args .s) (now (d .args .block)) (wide d) _
-    (sym (c .before .before .before .slot-in-hand .ensures) ∙ c .before .e .given .1)
+    let d = c .before .before .before .before .before .before in
+    rw (c .refused .ensures)
+    (slot-refused (λ st k l b. commitHeld st (capacityOf st) k l b) (d .args .s) (now (d .args .block)) (wide d) _
+    (sym (c .before .before .before .before .slot-in-hand .ensures) ∙ c .before .before .e .given .1))
 
 pub commit-full-spec : {M : Type 1} → statement M
 commit-full-spec =
@@ -51,6 +52,7 @@ commit-full-spec =
     slot-capacity-requires
     commit-held-requires
     (λ c. search needs)
+    (λ c κs. search needs)
     (λ c. search needs)
     returns
     returns-2)

@@ -30,9 +30,10 @@ returns c =
 returns-2 : tie.Need-returns-2
 unfolding commitPackets
 returns-2 c =
-    let d = c .before .before .before .before .before .before in
-    slot-refused (λ st k l b. packetsHeld st (now (d .args .lengths)) k l b) (d .args .s) (now (d .args .block)) (wide d) _
-    (sym (c .before .before .before .slot-in-hand .ensures) ∙ c .before .e .given .1)
+    let d = c .before .before .before .before .before .before .before in
+    rw (c .refused .ensures)
+    (slot-refused (λ st k l b. packetsHeld st (now (d .args .lengths)) k l b) (d .args .s) (now (d .args .block)) (wide d) _
+    (sym (c .before .before .before .before .slot-in-hand .ensures) ∙ c .before .before .e .given .1))
 
 pub commit-packets-spec : {M : Type 1} → statement M
 commit-packets-spec =
@@ -42,6 +43,7 @@ commit-packets-spec =
     (λ c. search needs)
     packets-held-requires
     (λ c. search needs)
+    (λ c κs. search needs)
     (λ c. search needs)
     returns
     returns-2)

@@ -30,7 +30,7 @@ returns c =
 returns-2 : tie.Need-returns-2
 returns-2 c =
     let d = c .before .before .before in
-    replied _ (refl, refl) (finished _ (passed d .0) (wide (d .before .before .before)) (passed d .1) true (eq-eqb _ _ (c .if1 .taken)))
+    replied _ refl (finished _ (passed d .0) (wide (d .before .before .before)) (passed d .1) true (eq-eqb _ _ (c .if1 .taken)))
 
 returns-3 : tie.Need-returns-3
 returns-3 c =

@@ -39,7 +39,7 @@ returns-2 c =
 returns-3 : tie.Need-returns-3
 returns-3 c =
     let d = c .before .before .before .before in
-    replied _ (refl, refl) (given-back _ (passed d) _ (c .before .before .hand .given .1) _ (c .put-back .ensures))
+    replied _ refl (given-back _ (passed d) _ (c .before .before .hand .given .1) _ (c .put-back .ensures))
 
 returns-4 : tie.Need-returns-4
 unfolding onHeld

@@ -30,7 +30,7 @@ returns-2 : tie.Need-returns-2
 returns-2 c =
     let gate = c .before .before .before .before .before .before in
     let passed = idle-passed _ _ (gate .idle-gate .ensures) (c .before .before .before .before .enum-told .given .1) in
-    replied _ (refl, refl) (started _ (passed .0) (wide (gate .before)) (passed .1) _ (armed (c .before)) _ (c .with-state .ensures))
+    replied _ refl (started _ (passed .0) (wide (gate .before)) (passed .1) _ (armed (c .before)) _ (c .with-state .ensures))
 
 pub start-spec : {M : Type 1} → statement M
 start-spec =

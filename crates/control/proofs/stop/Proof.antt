@@ -50,7 +50,7 @@ returns-3 : tie.Need-returns-3
 returns-3 c =
     let found = c .before .before .before .before .before .before .before in
     let d = found .before .before .before in
-    replied-list _ (refl, refl)
+    replied-list _ refl
     (all-stopped _ (passed d .0) (wide (d .before .before .before .before)) _ (found .discard-all .ensures) (passed d .1) _
     (c .before .before .before .before .if1 .left) _ (c .before .before .before .before .before .with-state .ensures)
     _ (c .before .before .write-list .ensures))

@@ -1,5 +1,6 @@
 -- `reaped::by_errno` meets its contract: each return knows whether the errno is 11, and the record is the one that came.
 -- Assumes nothing.
+use mathlib.Core.Path.{_∙_}
 use borrow.Author.Needs.{needs}
 use borrow.Author.Tests.{eq-eqb, ne-eqb}
 use Rattle.ring.proofs.Wide.{Wide, table-long}
@@ -20,9 +21,10 @@ returns c =
 returns-2 : tie.Need-returns-2
 unfolding byErrno
 returns-2 c =
-    let d = c .before .before in
+    let d = c .before .before .before in
+    c .refused .ensures ∙
     errno-told (d .args .s) (d .pre) (wide d) (d .args .errno) _
-    (rw (ne-eqb _ _ (c .before .if1 .left), c .from-errno .ensures))
+    (rw (ne-eqb _ _ (c .before .before .if1 .left), c .before .from-errno .ensures))
 
 pub by-errno-spec : {M : Type 1} → statement M
-by-errno-spec = tie.close (tie.spec returns (λ c κs. search needs) returns-2)
+by-errno-spec = tie.close (tie.spec returns (λ c κs. search needs) (λ c κs. search needs) returns-2)

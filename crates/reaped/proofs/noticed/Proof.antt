@@ -46,11 +46,11 @@ reaped-slot-requires-2 c κs =
 
 returns : tie.Need-returns
 unfolding stateOf markFor
-returns c = stray (c .before .before .before .before .before .before) _ (c .enum-told .given .1) refl
+returns c = c .refused .ensures ∙ stray (c .before .before .before .before .before .before .before) _ (c .before .enum-told .given .1) refl
 
 returns-2 : tie.Need-returns-2
 unfolding stateOf markFor
-returns-2 c = stray (c .before .before .before .before .before .before) _ (c .enum-told2 .given .1) refl
+returns-2 c = c .refused2 .ensures ∙ stray (c .before .before .before .before .before .before .before) _ (c .before .enum-told2 .given .1) refl
 
 returns-3 : tie.Need-returns-3
 unfolding stateOf markFor
@@ -72,7 +72,9 @@ noticed-spec =
     (tie.spec
     copy
     (λ c. search needs)
+    (λ c κs. search needs)
     (λ c. search needs)
+    (λ c κs. search needs)
     (λ c. search needs)
     reaped-slot-requires
     (λ c. search needs)

@@ -33,8 +33,10 @@ wrong-hand c =
 returns : tie.Need-returns
 unfolding reaped
 returns c =
-    let d = c .before .before .before .before .before in
-    gate-refused _ (d .args .s) (d .args .block .now) (wide d) _ (sym (c .before .before .before .gate .ensures) ∙ c .before .e .given .1)
+    let e = c .before .before in
+    let d = e .before .before .before .before in
+    rw (c .refused .ensures)
+    (gate-refused _ (d .args .s) (d .args .block .now) (wide d) _ (sym (e .before .before .gate .ensures) ∙ e .e .given .1))
 
 by-address-requires : tie.Need-by-address-requires
 by-address-requires c κs =
@@ -59,15 +61,15 @@ returns-3 c =
 
 returns-4 : tie.Need-returns-4
 unfolding onIdle
-returns-4 c = wrong-hand (c .before .before) _ (c .enum-told3 .given .1) (λ next wrong. refl)
+returns-4 c = rw (c .refused2 .ensures) (wrong-hand (c .before .before .before) _ (c .before .enum-told3 .given .1) (λ next wrong. refl))
 
 returns-5 : tie.Need-returns-5
 unfolding onIdle
-returns-5 c = wrong-hand (c .before .before) _ (c .enum-told4 .given .1) (λ next wrong. refl)
+returns-5 c = rw (c .refused3 .ensures) (wrong-hand (c .before .before .before) _ (c .before .enum-told4 .given .1) (λ next wrong. refl))
 
 returns-6 : tie.Need-returns-6
 unfolding onIdle
-returns-6 c = wrong-hand (c .before .before) _ (c .enum-told5 .given .1) (λ next wrong. refl)
+returns-6 c = rw (c .refused4 .ensures) (wrong-hand (c .before .before .before) _ (c .before .enum-told5 .given .1) (λ next wrong. refl))
 
 pub reaped-spec : {M : Type 1} → statement M
 reaped-spec =
@@ -75,6 +77,7 @@ reaped-spec =
     (tie.spec
     (λ c κs. search needs)
     (λ c. search needs)
+    (λ c κs. search needs)
     (λ c. search needs)
     (λ c. search needs)
     (λ c. search needs)
@@ -82,8 +85,11 @@ reaped-spec =
     (λ c. search needs)
     by-address-requires
     (λ c. search needs)
+    (λ c κs. search needs)
     (λ c. search needs)
+    (λ c κs. search needs)
     (λ c. search needs)
+    (λ c κs. search needs)
     returns
     returns-2
     returns-3

@@ -52,17 +52,18 @@ silent-requires c κs =
 returns : tie.Need-returns
 unfolding submitted
 returns c =
-    let e = c .before in
+    let e = c .before .before in
     let d = e .before .before .before .before in
-    gate-refused _ (d .args .s) (d .args .block .now) (wide d) _ (sym (e .before .before .gate .ensures) ∙ e .e .given .1)
+    rw (c .refused .ensures)
+    (gate-refused _ (d .args .s) (d .args .block .now) (wide d) _ (sym (e .before .before .gate .ensures) ∙ e .e .given .1))
 
 returns-2 : tie.Need-returns-2
 unfolding bySending
-returns-2 c = wrong (c .before .before .before) _ (c .before .enum-told2 .given .1) refl _ (c .wrong-hand .ensures)
+returns-2 c = wrong (c .before .before .before) _ (c .before .enum-told2 .given .1) refl _ (c .refused2 .ensures)
 
 returns-3 : tie.Need-returns-3
 unfolding bySending
-returns-3 c = wrong (c .before .before .before) _ (c .before .enum-told3 .given .1) refl _ (c .wrong-hand2 .ensures)
+returns-3 c = wrong (c .before .before .before) _ (c .before .enum-told3 .given .1) refl _ (c .refused3 .ensures)
 
 returns-4 : tie.Need-returns-4
 unfolding bySending
@@ -91,6 +92,7 @@ submitted-spec =
     (tie.spec
     (λ c κs. search needs)
     (λ c. search needs)
+    (λ c κs. search needs)
     (λ c. search needs)
     (λ c. search needs)
     (λ c κs. search needs)

@@ -84,7 +84,8 @@ returns-3 c =
     let counted = told .before .before .before in
     let d = counted .before .before in
     by-policy (d .args .s) (d .args .block .now) _ _ _ _ (told .enum-told3 .given .1)
-    (told-underrun (d .args .s) (d .pre .0) (wide d) _ (counted .count-underrun .ensures) (d .args .block .now))
+    (rw (c .refused .ensures)
+    (told-underrun (d .args .s) (d .pre .0) (wide d) _ (counted .count-underrun .ensures) (d .args .block .now)))
 
 pub on-underrun-spec : {M : Type 1} → statement M
 on-underrun-spec =
@@ -96,6 +97,7 @@ on-underrun-spec =
     (λ c. search needs)
     silence-front-requires
     (λ c. search needs)
+    (λ c κs. search needs)
     returns
     (λ c. search needs)
     returns-2

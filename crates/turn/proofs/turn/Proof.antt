@@ -41,9 +41,10 @@ turn-idle-requires c κs =
 returns : tie.Need-returns
 unfolding turn
 returns c =
-    let e = c .before in
+    let e = c .before .before in
     let d = e .before .before .before .before in
-    gate-refused _ (d .args .s) (d .args .block .now) (wide d) _ (sym (e .before .before .gate .ensures) ∙ e .e .given .1)
+    rw (c .refused .ensures)
+    (gate-refused _ (d .args .s) (d .args .block .now) (wide d) _ (sym (e .before .before .gate .ensures) ∙ e .e .given .1))
 
 returns-2 : tie.Need-returns-2
 unfolding onIdle
@@ -58,15 +59,15 @@ returns-2 c =
 
 returns-3 : tie.Need-returns-3
 unfolding onIdle
-returns-3 c = wrong (c .before .before .before) _ (c .before .enum-told3 .given .1) (λ next refusal. refl) _ (c .wrong-hand .ensures)
+returns-3 c = wrong (c .before .before .before) _ (c .before .enum-told3 .given .1) (λ next refusal. refl) _ (c .refused2 .ensures)
 
 returns-4 : tie.Need-returns-4
 unfolding onIdle
-returns-4 c = wrong (c .before .before .before) _ (c .before .enum-told4 .given .1) (λ next refusal. refl) _ (c .wrong-hand2 .ensures)
+returns-4 c = wrong (c .before .before .before) _ (c .before .enum-told4 .given .1) (λ next refusal. refl) _ (c .refused3 .ensures)
 
 returns-5 : tie.Need-returns-5
 unfolding onIdle
-returns-5 c = wrong (c .before .before .before) _ (c .before .enum-told5 .given .1) (λ next refusal. refl) _ (c .wrong-hand3 .ensures)
+returns-5 c = wrong (c .before .before .before) _ (c .before .enum-told5 .given .1) (λ next refusal. refl) _ (c .refused4 .ensures)
 
 pub turn-spec : {M : Type 1} → statement M
 turn-spec =
@@ -74,6 +75,7 @@ turn-spec =
     (tie.spec
     (λ c κs. search needs)
     (λ c. search needs)
+    (λ c κs. search needs)
     (λ c. search needs)
     (λ c. search needs)
     turn-idle-requires

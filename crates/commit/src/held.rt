@@ -1,14 +1,14 @@
 // The slot in hand: the tests that every commit starts with, and the two ways in which one ends.
 use error::Error;
+use hand::refused;
+use hand::with_hand;
 use ring::Hand;
-use ring::Ring;
 use stream::Answer;
 use stream::Gate;
 use stream::Reply;
 use stream::Stream;
 ghost use mathlib.Core.Bool.{true};
 ghost use mathlib.Core.Path.{_≡_};
-ghost use Rattle.stream.specs.Parts.{withState};
 ghost use Rattle.stream.specs.Sound.{sound};
 ghost use Rattle.ledger.specs.Ledger.{returned, withHand};
 ghost use Rattle.ledger.specs.Record.{view, stored};
@@ -38,32 +38,13 @@ pub fn slot_in_hand(s: Stream, block_len: usize) -> InHand
     }
 }
 
-// The record with another ring and hand, and the answer.
-fn reply(s: Stream, ring: Ring, hand: Hand, answer: Answer) -> Reply
-    ensures { λ r. ⌜ (r .answer ≡ answer) × (r .stream ≡ withState s ring hand (s .flags) (s .stats)) ⌝ }
-{
-    let setup = s.setup;
-    let flags = s.flags;
-    let stats = s.stats;
-    Reply {
-        stream: Stream {
-            setup,
-            ring,
-            hand,
-            flags,
-            stats,
-        },
-        answer,
-    }
-}
-
 // Internal: ends a refused commit. The slot goes to the queue's end, as the Rust's Slot does when it is dropped.
 pub fn put_back(s: Stream, i: usize, e: Error) -> Reply
     requires { ⌜ (sound s ≡ true) × (s .hand ≡ Hand.Held i) ⌝ }
     ensures { λ r. ⌜ (r .answer ≡ Answer.Refused e) × (r .stream ≡ stored s (withHand Hand.Idle (returned i (view s)))) ⌝ }
 {
-    let ring = s.ring;
-    reply(s, ring.release(i), Hand::Idle, Answer::Refused(e))
+    let back = hand::put_back(s, i);
+    refused(back, e)
 }
 
 // Internal: ends a commit whose lengths are written. The host is to submit the slot.
@@ -71,6 +52,8 @@ pub fn send(s: Stream, i: usize) -> Reply
     requires { ⌜ (sound s ≡ true) × (s .hand ≡ Hand.Held i) ⌝ }
     ensures { λ r. ⌜ (r .answer ≡ Answer.Submit i) × (r .stream ≡ stored s (withHand (Hand.Sending i) (view s))) ⌝ }
 {
-    let ring = s.ring;
-    reply(s, ring, Hand::Sending(i), Answer::Submit(i))
+    Reply {
+        stream: with_hand(s, s.ring, Hand::Sending(i)),
+        answer: Answer::Submit(i),
+    }
 }

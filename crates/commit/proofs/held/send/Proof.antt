@@ -1,19 +1,19 @@
--- `commit::hand::send` meets its contract: Sending has the slot that Held had, so no slot's state differs.
+-- `commit::held::send` meets its contract: Sending has the slot that Held had, so no slot's state differs.
 -- Assumes nothing.
-use mathlib.Core.Path.{_∙_}
+use mathlib.Core.Path.{refl, _∙_}
 use borrow.Author.Needs.{needs}
 use Rattle.ring.proofs.Wide.{Wide, table-long}
 use Rattle.commit.proofs.Moves.{sent}
-use Rattle.commit.proofs.hand.send.Statement.{statement}
-use Rattle.commit.proofs.hand.send.Tie as tie
+use Rattle.commit.proofs.held.send.Statement.{statement}
+use Rattle.commit.proofs.held.send.Tie as tie
 
 wide : (c : tie.Start) → Wide (c .args .s .ring)
 wide c = record { table = search (needs, table-long); places = search needs }
 
 returns : tie.Need-returns
 returns c =
-    let d = c .before .before in
-    (c .reply .ensures .0, c .reply .ensures .1 ∙ sent (d .args .s) (d .pre .0) (wide d) (d .args .i) (d .pre .1))
+    let d = c .before in
+    (refl, c .with-hand .ensures ∙ sent (d .args .s) (d .pre .0) (wide d) (d .args .i) (d .pre .1))
 
 pub send-spec : {M : Type 1} → statement M
 send-spec = tie.close (tie.spec (λ c κs. search needs) returns)

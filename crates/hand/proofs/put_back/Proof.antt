@@ -1,4 +1,4 @@
--- `control::put_back` meets its contract: there is room in the queue for the slot in hand, and its release is the ledger's return.
+-- `hand::put_back` meets its contract: there is room in the queue for the slot in hand, and its release is the ledger's return.
 -- Assumes nothing.
 use mathlib.Core.Path.{ap, _∙_}
 use borrow.Author.Needs.{needs}
@@ -7,22 +7,22 @@ use Rattle.ring.specs.declared.Ring.{Ring}
 use Rattle.ring.proofs.Wide.{Wide, table-long}
 use Rattle.stream.specs.Parts.{withState}
 use Rattle.ledger.proofs.InHand.{queue-room, returned-stored}
-use Rattle.control.proofs.put_back.Statement.{statement}
-use Rattle.control.proofs.put_back.Tie as tie
+use Rattle.hand.proofs.put_back.Statement.{statement}
+use Rattle.hand.proofs.put_back.Tie as tie
 
 wide : (c : tie.Start) → Wide (c .args .s .ring)
 wide c = record { table = search (needs, table-long); places = search needs }
 
 release-requires : tie.Need-release-requires
 release-requires c κs =
-    let d = c .before .before in
+    let d = c .before in
     queue-room (d .args .s) (d .pre .0) (wide d) (d .args .i) (d .pre .1)
 
 returns : tie.Need-returns
 returns c =
-    let d = c .before .before .before .before in
+    let d = c .before .before .before in
     let s = d .args .s in
-    c .with-state .ensures ∙
+    c .with-hand .ensures ∙
     ap (λ (r : Ring). withState s r Hand.Idle (s .flags) (s .stats)) (c .before .release .ensures) ∙
     returned-stored s (d .pre .0) (wide d) (d .args .i) (d .pre .1)
 

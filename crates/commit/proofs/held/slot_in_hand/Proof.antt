@@ -1,12 +1,12 @@
--- `commit::hand::slot_in_hand` meets its contract: the first arm knows the gate's refusal, each other one the case of the hand.
+-- `commit::held::slot_in_hand` meets its contract: the first arm knows the gate's refusal, each other one the case of the hand.
 -- Assumes nothing.
 use mathlib.Core.Path.{_≡_, sym, _∙_}
 use borrow.Author.Needs.{needs}
 use Rattle.stream.specs.declared.Gate.{Gate}
 use Rattle.stream.specs.Sound.{gateOf}
 use Rattle.commit.specs.Held.{slotOf, past, slotInHand}
-use Rattle.commit.proofs.hand.slot_in_hand.Statement.{statement}
-use Rattle.commit.proofs.hand.slot_in_hand.Tie as tie
+use Rattle.commit.proofs.held.slot_in_hand.Statement.{statement}
+use Rattle.commit.proofs.held.slot_in_hand.Tie as tie
 
 opened : (c : tie.After-enum-told) → gateOf (c .before .before .before .args .s) (c .before .before .before .args .block-len) ≡ Gate.Open
 opened c = sym (c .before .before .gate .ensures) ∙ c .enum-told .given .1
