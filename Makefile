@@ -14,7 +14,7 @@ WITH =
 
 compare:
 	@rt check beside
-	@WITH='$(WITH)' tests/beside_rust $(RUNS) $(SEED)
+	@WITH='$(WITH)' tests/beside_rust '$(RUNS)' '$(SEED)'
 
 bench:
 	@tests/bench

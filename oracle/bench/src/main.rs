@@ -16,8 +16,16 @@ const BYTES: usize = 192;
 const GOES: usize = 7;
 
 extern "C" {
-    fn usbfs_iso_cycles(p: usize, b: usize, base: usize, at: *const usize, n: usize, rounds: usize, block: *mut u8, len: usize)
-        -> u64;
+    fn usbfs_iso_cycles(
+        p: usize,
+        b: usize,
+        base: usize,
+        at: *const usize,
+        n: usize,
+        rounds: usize,
+        block: *mut u8,
+        len: usize,
+    ) -> u64;
     fn usbfs_iso_lent_cycles(
         p: usize,
         b: usize,

@@ -105,9 +105,13 @@ struct Counts {
     calls: u64,
     lines: u64,
     mismatches: u64,
+    /// Words of the Rust's lines, and those among them that are `?`.
+    words: u64,
+    unshown: u64,
 }
 
-/// Compares runs, or all questions, and prints how many there were and how many lines differ. Whether all agree.
+/// Compares runs, or all questions, and prints how many there were and how many lines differ. Whether there were any and all
+/// agree.
 pub fn compare(runs: Option<Runs>, with: Option<&str>, out: &mut impl Write) -> io::Result<bool> {
     let mut child = start(with)?;
     let mut shown = BufReader::with_capacity(1 << 16, child.stdout.take().expect("a pipe"));
@@ -124,10 +128,15 @@ pub fn compare(runs: Option<Runs>, with: Option<&str>, out: &mut impl Write) -> 
     });
     let (extra, fed) = fed?;
     let ended = child.wait()?;
-    let Counts { items, calls, lines, mismatches } = counts;
+    let Counts { items, calls, lines, mismatches, words, unshown } = counts;
     match runs {
-        Some(_) => writeln!(out, "{items} runs, {calls} calls, {lines} lines, {mismatches} mismatches")?,
-        None => writeln!(out, "{calls} questions, {lines} lines, {mismatches} mismatches")?,
+        Some(_) => write!(out, "{items} runs, {calls} calls")?,
+        None => write!(out, "{calls} questions")?,
+    }
+    writeln!(out, ", {lines} lines, {mismatches} mismatches; {unshown} of {words} words are ?")?;
+    if lines == 0 {
+        writeln!(out, "nothing was compared")?;
+        return Ok(false);
     }
     if extra || !fed || !ended.success() {
         writeln!(out, "the other program did not end as it should: {ended}")?;
@@ -151,6 +160,10 @@ fn compare_lines(
             line.clear();
             shown.read_until(b'\n', &mut line)?;
             counts.lines += 1;
+            for word in words(wanted.trim_ascii_end()) {
+                counts.words += 1;
+                counts.unshown += u64::from(word == b"?");
+            }
             if agree(wanted, &line) {
                 continue;
             }
@@ -168,15 +181,17 @@ fn compare_lines(
     Ok(shown.read_until(b'\n', &mut line)? > 0)
 }
 
+fn words(line: &[u8]) -> impl Iterator<Item = &[u8]> {
+    line.split(|&byte| byte == b' ')
+}
+
 /// Word by word; a `?` stands where the Rust shows nothing.
 fn agree(wanted: &[u8], line: &[u8]) -> bool {
-    let words = |text: &'_ [u8]| text.iter().filter(|&&b| b == b' ').count();
     let (Some(wanted), Some(line)) = (wanted.strip_suffix(b"\n"), line.strip_suffix(b"\n")) else {
         return false;
     };
     if wanted == line {
         return true;
     }
-    let pairs = wanted.split(|&b| b == b' ').zip(line.split(|&b| b == b' '));
-    words(wanted) == words(line) && pairs.into_iter().all(|(w, l)| w == l || w == b"?")
+    words(wanted).count() == words(line).count() && words(wanted).zip(words(line)).all(|(w, l)| w == l || w == b"?")
 }

@@ -1,6 +1,6 @@
 //! Layout, schedule, descriptor and errno, as questions and lines.
 
-use form::{function, push_number, Answer, FUNCTIONS, FUNCTION_NUMBERS};
+use form::{function, push_number, Answer, BLOCK_LIMIT, FUNCTIONS, FUNCTION_NUMBERS};
 
 use super::block::layout;
 use super::calls::from_errno;
@@ -190,6 +190,10 @@ fn build(q: &[u64; FUNCTION_NUMBERS], wrong: Wrong) -> Option<Result<[u64; 3], u
         let [packets, urbs] = [s[1]?, s[2]?];
         if urbs > 256 || bytes > 49_152 {
             return Err(5);
+        }
+        // The block has the length that the ring takes, but no more than a block here can have.
+        if layout(urbs, packets, bytes)?.total > BLOCK_LIMIT {
+            return Err(6);
         }
         Ok([urbs, packets, bytes])
     };

@@ -63,7 +63,7 @@ impl Ledger {
         }
         let room: u128 = if o.tagged == 1 { 1 << 56 } else { 1 << 64 };
         let end = u128::from(masked(o.base, o.tagged)) + u128::from(layout.total);
-        if !o.base.is_multiple_of(64) || end > room {
+        if o.base % 64 != 0 || end > room {
             return Err(7);
         }
         Block { bytes, layout, p: o.p }.open(o);
