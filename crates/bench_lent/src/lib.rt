@@ -1,5 +1,5 @@
-// The hot cycle on a record that is lent to each call, for the benchmark (docs/PERFORMANCE.md). These functions promise that they
-// are safe and end.
+// The hot cycle on a record that is lent to each call, for the benchmark (docs/PERFORMANCE.md). These functions promise
+// that they are safe and end.
 use bench::address_at;
 use bench::came_back;
 use bench::next;

@@ -1,5 +1,6 @@
-// The ten calls, by their kinds, and their lines (docs/RUNS.md). For the programs of this repository: these functions promise
-// that they are safe and end, since whatever a kind and its numbers are, the call that they pick refuses what is wrong.
+// The ten calls, by their kinds, and their lines (docs/RUNS.md). For the programs of this repository: these functions
+// promise that they are safe and end, since whatever a kind and its numbers are, the call that they pick refuses what
+// is wrong.
 use input::Mode;
 use screen::show;
 use stream::Reaping;

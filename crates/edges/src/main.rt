@@ -1,23 +1,14 @@
-// Plays the runs and answers the questions of standard input, which have the edges that cannot be run beside the Rust, and then
-// makes calls on records that no list of calls makes: counters before they wrap, and records that break the list of refusal 8
-// (most break one rule alone). Lines are those of docs/RUNS.md, with a title above each group of calls.
-mod broken;
+// Plays the runs and answers the questions of standard input, which have the edges that cannot be run beside the Rust,
+// and then makes calls on records that no list of calls makes: counters before they wrap, and records that break the
+// list of refusal 8 (most break one rule alone). Lines are those of docs/RUNS.md, with a title above each group of
+// calls.
 mod wrapping;
 
-use broken::all_records;
-use input::Mode;
+use broken_records::all_records;
 use input::Style;
 use player::play_input;
 use text::flush;
 use wrapping::all_counters;
-
-// Lines, of calls by value.
-fn lines() -> Mode {
-    Mode {
-        style: Style::Lines,
-        is_lent: false,
-    }
-}
 
 fn main() {
     play_input(Style::Lines);

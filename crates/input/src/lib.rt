@@ -1,5 +1,5 @@
-// The input of the programs: numbers of 8 bytes, little-endian, by way of a buffer (docs/RUNS.md), and the state that playing
-// hands along. These functions promise that they are safe and end.
+// The input of the programs: numbers of 8 bytes, little-endian, by way of a buffer (docs/RUNS.md), and the state that
+// playing hands along. These functions promise that they are safe and end.
 use libc::STDIN_FILENO;
 use sys::field::get_u64;
 

@@ -1,13 +1,13 @@
 // The question to the builder: a stream is built in a block of the length that its ring takes.
-use super::arguments::depth_of;
-use super::arguments::packets_of;
-use super::arguments::speed_of;
-use super::arguments::u8_of;
 use builder::Built;
 use builder::IsoOutBuilder;
 use layout::Laid;
 use layout::RingLayout;
 use line::refused;
+use reading::arguments::depth_of;
+use reading::arguments::packets_of;
+use reading::arguments::speed_of;
+use reading::arguments::u8_of;
 use schedule::Derived;
 use schedule::Schedule;
 use text::marked;

@@ -1,18 +1,7 @@
-// A question: a function beside the calls, its arguments and its results (docs/RUNS.md). These functions promise that they are
-// safe and end; that the lines are right is compared.
-mod arguments;
+// A question: a function beside the calls, its arguments and its results (docs/RUNS.md). These functions promise that
+// they are safe and end; that the lines are right is compared.
 mod build;
 
-use arguments::argument_count;
-use arguments::depth_of;
-use arguments::is_narrow;
-use arguments::is_padded;
-use arguments::packets_of;
-use arguments::speed_number;
-use arguments::speed_of;
-use arguments::u8_of;
-use arguments::u16_of;
-use arguments::u32_of;
 use build::build_text;
 use error::ErrnoContext;
 use error::Error;
@@ -21,6 +10,16 @@ use input::numbers;
 use layout::Laid;
 use layout::RingLayout;
 use line::refused;
+use reading::arguments::argument_count;
+use reading::arguments::depth_of;
+use reading::arguments::is_narrow;
+use reading::arguments::is_padded;
+use reading::arguments::packets_of;
+use reading::arguments::speed_number;
+use reading::arguments::speed_of;
+use reading::arguments::u8_of;
+use reading::arguments::u16_of;
+use reading::arguments::u32_of;
 use schedule::Derived;
 use schedule::Endpoint;
 use schedule::Interval;

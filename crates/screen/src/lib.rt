@@ -1,5 +1,5 @@
-// What is printed after a call: a line of docs/RUNS.md, or what a counter screen shows, in columns. For the programs of this
-// repository: these functions promise that they are safe and end.
+// What is printed after a call: a line of docs/RUNS.md, or what a counter screen shows, in columns. For the programs of
+// this repository: these functions promise that they are safe and end.
 use error::Error;
 use input::Style;
 use line::line;
@@ -13,6 +13,7 @@ use text::bytes;
 use text::left;
 use text::named;
 use text::right;
+use text::spaces;
 
 // Widths of the columns: the call, its answer, a count.
 const CALL: usize = 16;
@@ -30,15 +31,21 @@ pub fn heading(out: &mut [u8], style: Style) -> usize {
 }
 
 fn columns(out: &mut [u8]) -> usize {
+    let above = spaces(out, 0, 52);
     let first = bytes(
         out,
-        0,
-        b"                                                    --------- buffers ----------    ------ bytes ------- ---- errors ---\n",
+        above,
+        b"--------- buffers ----------    ------ bytes ------- ---- errors ---\n",
+    );
+    let words = bytes(
+        out,
+        first,
+        b"call            answer                          ",
     );
     bytes(
         out,
-        first,
-        b"call            answer                               out    free    sent    back    sent  played   short packets buffers    gaps\n",
+        words,
+        b"     out    free    sent    back    sent  played   short packets buffers    gaps\n",
     )
 }
 
@@ -139,8 +146,8 @@ fn row(out: &mut [u8], at: usize, kind: u64, answer: Answer, s: Stream) -> usize
     byte(out, end, b'\n')
 }
 
-// What is printed of a call, or of an opening that was not refused (kind 12): in the style that is asked for. A list is what
-// stop was lent.
+// What is printed of a call, or of an opening that was not refused (kind 12): in the style that is asked for. A list is
+// what stop was lent.
 pub fn show(
     out: &mut [u8],
     at: usize,
