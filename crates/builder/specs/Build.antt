@@ -6,16 +6,16 @@ use mathlib.Core.List.{List}
 use lib.Dec.{ltb, eqb}
 use lib.ListN.{length}
 use Rattle.error.specs.declared.Error.{Error}
-use Rattle.layout.specs.declared.Opens.{Opens}
+use Rattle.layout.specs.declared.Laid.{Laid}
 use Rattle.layout.specs.declared.Setup.{Setup}
-use Rattle.layout.specs.Opening.{opens}
+use Rattle.opening.specs.Refusals.{opens}
+use Rattle.opening.specs.Opened.{noStream}
 use Rattle.opening.specs.Open.{openOutcome}
 use Rattle.schedule.specs.declared.Derived.{Derived}
 use Rattle.schedule.specs.declared.Schedule.{Schedule}
 use Rattle.schedule.specs.Derive.{derived}
 use Rattle.schedule.specs.Endpoint.{bits}
 use Rattle.stream.specs.declared.Stream.{Stream}
-use Rattle.stream.specs.Opened.{noStream}
 use Rattle.builder.specs.declared.BInterval.{BInterval}
 use Rattle.builder.specs.declared.PacketSize.{PacketSize}
 use Rattle.builder.specs.declared.PacketBytes.{PacketBytes}
@@ -61,20 +61,20 @@ setupOf b schedule base tagged =
     }
 
 -- Opening's refusal, or the schedule.
-unfoldable pub openingAnswer : Opens → Schedule → Derived
-openingAnswer (Opens.Refused e) schedule = Derived.Refused e
-openingAnswer (Opens.Yes layout) schedule = Derived.Schedule schedule
+unfoldable pub openingAnswer : Laid → Schedule → Derived
+openingAnswer (Laid.Refused e) schedule = Derived.Refused e
+openingAnswer (Laid.Layout layout) schedule = Derived.Schedule schedule
 
 -- All that build gives: its answer, the record and the block.
-pub record Outcome : Type 0 where
+pub record BuildResult : Type 0 where
   pub answer : Derived
   pub stream : Stream
   pub block : List ℕ
 
 -- Refused before opening: the record of no slots, block untouched. Else opening's answer, record and block.
-unfoldable pub outcomeOf : Derived → IsoOutBuilder → ℕ → Bool → List ℕ → Outcome
-outcomeOf (Derived.Refused e) b base tagged block = record { answer = Derived.Refused e; stream = noStream; block = block }
-outcomeOf (Derived.Schedule schedule) b base tagged block =
+unfoldable pub builtOr : Derived → IsoOutBuilder → ℕ → Bool → List ℕ → BuildResult
+builtOr (Derived.Refused e) b base tagged block = record { answer = Derived.Refused e; stream = noStream; block = block }
+builtOr (Derived.Schedule schedule) b base tagged block =
     record {
       answer = openingAnswer (opens (setupOf b schedule base tagged) (length block)) schedule;
       stream = openOutcome (setupOf b schedule base tagged) block .stream;
@@ -82,5 +82,5 @@ outcomeOf (Derived.Schedule schedule) b base tagged block =
     }
 
 -- What build does with a builder, the block's base, whether addresses carry a tag, and the block.
-unfoldable pub buildOutcome : IsoOutBuilder → ℕ → Bool → List ℕ → Outcome
-buildOutcome b base tagged block = outcomeOf (planOf b) b base tagged block
+unfoldable pub buildOutcome : IsoOutBuilder → ℕ → Bool → List ℕ → BuildResult
+buildOutcome b base tagged block = builtOr (planOf b) b base tagged block

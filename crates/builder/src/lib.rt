@@ -13,7 +13,8 @@ ghost use mathlib.Core.Path.{_≡_};
 ghost use Rattle.error.specs.declared.Error.{Error};
 ghost use Rattle.schedule.specs.declared.Derived.{Derived};
 ghost use Rattle.stream.specs.declared.Answer.{Answer};
-ghost use Rattle.builder.specs.Fields.{newBuilder, withMaxPacketSize, withInterval, withSpeed, withPacketBytes, withPacketsPerUrb, withDepth, withUnderrun, withSilenceByte};
+ghost use Rattle.builder.specs.Fields.{newBuilder, withMaxPacketSize, withInterval, withSpeed, withPacketBytes};
+ghost use Rattle.builder.specs.Fields.{withPacketsPerUrb, withDepth, withUnderrun, withSilenceByte};
 ghost use Rattle.builder.specs.Build.{bytesOr, sizedPlan, planOf, setupOf, buildOutcome};
 
 // The endpoint's bInterval, where it is known.
@@ -34,8 +35,8 @@ pub enum PacketBytes {
     Given(usize),
 }
 
-// What build gives back: the schedule of the stream that was opened, or why none was; and the stream's record, of no slots where
-// build refused.
+// What build gives back: the schedule of the stream that was opened, or why none was; and the stream's record, of no
+// slots where build refused.
 pub struct Built {
     pub answer: Derived,
     pub stream: Stream,

@@ -1,6 +1,3 @@
-pub mod Replies
-pub mod Idle
 pub mod Unmoved
-pub mod Handed
 pub mod Scanned
 pub mod Stopped

@@ -3,25 +3,25 @@
 use Prim.Native.Nat.{ℕ, zero, suc, _+_, _≤_, _<_}
 use mathlib.Core.Path.{_≡_, refl, sym, ap, _∙_}
 use mathlib.Core.Bool.{Bool, true, false, true≢false, false≢true}
-use mathlib.Core.List.{List, [], _∷_, _++_, map, map-append, append-nil}
+use mathlib.Core.List.{List, [], _∷_, _++_, append-nil}
 use mathlib.Core.Logic.{⊎-elim}
 use native.Mathlib.Nat.{add-zero, zero-add}
 use native.Mathlib.Numerals.{add-one}
 use native.Mathlib.Omega.{arith}
-use lib.ListN.{length, getD, take, length-map, length-append, length-set, length-replicate}
-use lib.Seq.{take-suc, take-suc-set, length-take-le}
-use Rattle.ring.specs.declared.Cell.{Cell}
+use lib.ListN.{length, take, length-append, length-set, length-replicate}
+use lib.Seq.{take-suc-set}
 use Rattle.ring.specs.declared.Ring.{Ring}
 use Rattle.ring.specs.declared.SlotState.{SlotState}
 use Rattle.ring.specs.Moves.{discarded as Ring·discarded}
-use Rattle.ring.specs.Parts.{stateOf, withState}
+use Rattle.ring.specs.Counts.{table}
+use Rattle.ring.specs.Parts.{stateOf}
 use Rattle.ring.proofs.Counts.{last-or-below}
-use Rattle.ring.proofs.States.{state-put, state-other}
-use Rattle.ring.proofs.Wide.{Wide}
+use Rattle.ring.proofs.Numbers.{table-long}
+use Rattle.ring.proofs.States.{Parts, state-put, state-other, put-wide, put-parts}
+use Rattle.ring.proofs.Wide.{Wide, StatesWide}
 use Rattle.ledger.specs.Ledger.{Mark, home, out, discarded}
 use Rattle.ledger.specs.Control.{inFlightFrom}
 use Rattle.ledger.specs.Record.{markFor}
-use Rattle.ledger.proofs.Table.{free-cell}
 use Rattle.control.specs.Scan.{isInFlight, lookedAt, scanned}
 use Rattle.control.specs.declared.scan.Scan.{Scan}
 
@@ -34,7 +34,7 @@ stopped SlotState.Discarding = SlotState.Discarding
 
 -- the marks of a ring's first i slots
 abbrev pub marksOf : Ring → ℕ → List Mark
-marksOf ring i = map (λ (c : Cell). markFor (c .state)) (take i (ring .states))
+marksOf ring i = table (λ j. markFor (stateOf ring j)) i
 
 -- the numbers of those InFlight
 abbrev pub inFlight : Ring → ℕ → List ℕ
@@ -74,86 +74,73 @@ pub record Walked (ring : Ring) (i : ℕ) (t : Scan) : Type 0 where
   pub long : length (t .slots) ≡ 256
   pub counted : t .count ≡ length (inFlight ring i)
   pub listed : take (t .count) (t .slots) ≡ inFlight ring i
-  pub table : length (t .ring .states) ≡ 256
+  pub states : StatesWide (t .ring)
   pub below : (j : ℕ) → j < i → stateOf (t .ring) j ≡ stopped (stateOf ring j)
   pub above : (j : ℕ) → i ≤ j → stateOf (t .ring) j ≡ stateOf ring j
-  pub places : t .ring .free ≡ ring .free
-  pub queued : t .ring .«free_len» ≡ ring .«free_len»
-  pub outs : t .ring .«in_flight» ≡ ring .«in_flight»
+  pub parts : Parts (t .ring) ring
 
 module _ (ring : Ring) (wide : Wide ring) where
   -- the list with one slot more
-  in-flight-next : (i : ℕ) → i < 256 → inFlight ring (suc i) ≡ inFlight ring i ++ inFlightFrom i (markFor (stateOf ring i) ∷ [])
-  unfolding stateOf
-  in-flight-next i h =
-      let room : i < length (ring .states) = omega (arith, wide .table) in
-      ap (inFlightFrom 0)
-      (ap (map (λ (c : Cell). markFor (c .state))) (take-suc (ring .states) i free-cell room) ∙
-      map-append (λ (c : Cell). markFor (c .state)) (take i (ring .states)) (getD (ring .states) i free-cell ∷ [])) ∙
-      in-flight-append 0 (marksOf ring i) (markFor (getD (ring .states) i free-cell .state) ∷ []) ∙
-      ap (λ (k : ℕ). inFlight ring i ++ inFlightFrom k (markFor (getD (ring .states) i free-cell .state) ∷ []))
-      (zero-add (length (marksOf ring i)) ∙
-      length-map (take i (ring .states)) (λ (c : Cell). markFor (c .state)) ∙
-      length-take-le i (ring .states) (omega arith))
+  in-flight-next : (i : ℕ) → inFlight ring (suc i) ≡ inFlight ring i ++ inFlightFrom i (markFor (stateOf ring i) ∷ [])
+  unfolding table
+  in-flight-next i =
+      in-flight-append 0 (marksOf ring i) (markFor (stateOf ring i) ∷ []) ∙
+      ap (λ (k : ℕ). inFlight ring i ++ inFlightFrom k (markFor (stateOf ring i) ∷ []))
+      (zero-add (length (marksOf ring i)) ∙ table-long (λ j. markFor (stateOf ring j)) i)
 
   module _ (i : ℕ) (h : i < 256) (t : Scan) (w : Walked ring i t) where
     -- slot i, by whether it is InFlight
     one-more : (listed : Bool) → isInFlight (stateOf ring i) ≡ listed → Walked ring (suc i) (lookedAt listed i t)
-    unfolding lookedAt Ring·discarded withState
+    unfolding lookedAt Ring·discarded
     one-more false q =
         let is = not-in-flight (stateOf ring i) q i in
-        let e : inFlight ring (suc i) ≡ inFlight ring i = in-flight-next i h ∙ ap (λ (l : List ℕ). inFlight ring i ++ l) (is .1) ∙ append-nil (inFlight ring i) in
+        let e : inFlight ring (suc i) ≡ inFlight ring i = in-flight-next i ∙ ap (λ (l : List ℕ). inFlight ring i ++ l) (is .1) ∙ append-nil (inFlight ring i) in
         record {
           few = omega (arith, w .few);
           long = w .long;
           counted = w .counted ∙ ap length (sym e);
           listed = w .listed ∙ sym e;
-          table = w .table;
+          states = w .states;
           below = λ j l.
               ⊎-elim
               (λ (p : j ≡ i). rw p (w .above i (omega arith) ∙ sym (is .0)))
               (λ (p : j < i). w .below j p)
               (last-or-below j i l);
           above = λ j l. w .above j (omega arith);
-          places = w .places;
-          queued = w .queued;
-          outs = w .outs;
+          parts = w .parts;
         }
     one-more true q =
         let is = is-in-flight (stateOf ring i) q i in
+        let put = put-parts (t .ring) i SlotState.Discarding in
         let room : t .count < length (t .slots) = omega (arith, w .few, w .long) in
-        let e : inFlight ring (suc i) ≡ inFlight ring i ++ (i ∷ []) = in-flight-next i h ∙ ap (λ (l : List ℕ). inFlight ring i ++ l) (is .1) in
+        let e : inFlight ring (suc i) ≡ inFlight ring i ++ (i ∷ []) = in-flight-next i ∙ ap (λ (l : List ℕ). inFlight ring i ++ l) (is .1) in
         record {
           few = omega (arith, w .few);
           long = rw length-set (w .long);
           counted = rw (e, length-append) (omega (arith, w .counted));
           listed = rw add-one (take-suc-set (t .slots) (t .count) i room ∙ ap (λ (l : List ℕ). l ++ (i ∷ [])) (w .listed) ∙ sym e);
-          table = rw length-set (w .table);
+          states = put-wide (t .ring) i SlotState.Discarding (w .states);
           below = λ j l.
               ⊎-elim
-              (λ (p : j ≡ i). rw p (state-put (t .ring) i SlotState.Discarding (omega (arith, w .table)) ∙ sym (is .0)))
+              (λ (p : j ≡ i). rw p (state-put (t .ring) i SlotState.Discarding (w .states) h ∙ sym (is .0)))
               (λ (p : j < i). state-other (t .ring) i SlotState.Discarding j (λ z. omega arith) ∙ w .below j p)
               (last-or-below j i l);
           above = λ j l. state-other (t .ring) i SlotState.Discarding j (λ z. omega arith) ∙ w .above j (omega arith);
-          places = w .places;
-          queued = w .queued;
-          outs = w .outs;
+          parts = record { free = put .free ∙ w .parts .free; len = put .len ∙ w .parts .len; out = put .out ∙ w .parts .out };
         }
 
   pub walked : (i : ℕ) → i ≤ 256 → Walked ring i (scanned i ring)
-  unfolding scanned inFlightFrom
+  unfolding scanned inFlightFrom table
   walked zero h =
       record {
         few = omega arith;
         long = length-replicate {A = ℕ} 256 0;
         counted = refl;
         listed = refl;
-        table = wide .table;
+        states = wide .states;
         below = λ j l. absurd (omega arith);
         above = λ j l. refl;
-        places = refl;
-        queued = refl;
-        outs = refl;
+        parts = record { free = refl; len = refl; out = refl };
       }
   walked (suc i) h =
       let w = walked i (omega arith) in

@@ -42,10 +42,7 @@ impl Scan {
         ensures { λ r. ⌜ r ≡ lookedAt (isInFlight (stateOf (self .ring) i)) i self ⌝ }
     {
         let ring = self.ring;
-        let states = ring.states;
-        let cell = states[i];
-        let state = cell.state;
-        if !in_flight(state) {
+        if !in_flight(ring.state(i)) {
             return self;
         }
         let count = self.count;
@@ -61,7 +58,8 @@ impl Scan {
     // Internal: writes the numbers into the list, whose rest stays as it was.
     pub fn write_list(self, list: &mut [usize])
         requires { ⌜ (self .count ≤ 256) × (self .count ≤ length (now list)) ⌝ }
-        ensures { λ _. ⌜ now (list .exit) ≡ take (self .count) (self .slots) ++ drop (self .count) (now (list .entry)) ⌝ }
+        ensures { λ _.
+            ⌜ now (list .exit) ≡ take (self .count) (self .slots) ++ drop (self .count) (now (list .entry)) ⌝ }
     {
         let slots = self.slots;
         let count = self.count;

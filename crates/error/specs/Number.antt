@@ -1,7 +1,12 @@
 -- The paper's number of each refusal, and the value that comes with it.
 use Prim.Native.Nat.{ℕ}
 use Rattle.error.specs.declared.Error.{Error}
-use Rattle.error.specs.declared.Error.the-variants.{TooFewSlots, ZeroSize, TooManyPackets, LayoutOverflow, TooLarge, BlockLength, BaseAddress, Unsound, WrongHand, CommitTooLong, PacketCount, PacketTooLong, Disconnected, UsbfsMemory, PermissionDenied, Unsupported, Io, StrayNotice, Underrun, ListTooShort, UnsupportedSpeed, InvalidInterval, ZeroPacketBytes, ZeroPackets, ProductOverflow, NotIsochronous, IntervalUnknown, PacketSizeUnknown, PacketBytesTooLarge, InvalidEndpoint}
+use Rattle.error.specs.declared.Error.the-variants.{TooFewSlots, ZeroSize, TooManyPackets, LayoutOverflow, TooLarge, BlockLength}
+use Rattle.error.specs.declared.Error.the-variants.{BaseAddress, Unsound, WrongHand, CommitTooLong, PacketCount, PacketTooLong}
+use Rattle.error.specs.declared.Error.the-variants.{Disconnected, UsbfsMemory, PermissionDenied, Unsupported, Io, StrayNotice}
+use Rattle.error.specs.declared.Error.the-variants.{Underrun, ListTooShort, UnsupportedSpeed, InvalidInterval, ZeroPacketBytes}
+use Rattle.error.specs.declared.Error.the-variants.{ZeroPackets, ProductOverflow, NotIsochronous, IntervalUnknown}
+use Rattle.error.specs.declared.Error.the-variants.{PacketSizeUnknown, PacketBytesTooLarge, InvalidEndpoint}
 
 abbrev pub numberOf : Error → ℕ
 numberOf TooFewSlots = 1

@@ -109,8 +109,8 @@ impl Error {
         }
     }
 
-    // The value that comes with the refusal's number: 14 the ring's payload bytes, 17 the errno, 19 the count of underruns; 0 with
-    // the others.
+    // The value that comes with the refusal's number: 14 the ring's payload bytes, 17 the errno, 19 the count of
+    // underruns; 0 with the others.
     pub fn value(self) -> u64
         ensures { λ r. ⌜ r ≡ valueOf self ⌝ }
     {

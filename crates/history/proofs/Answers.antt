@@ -4,10 +4,8 @@ use mathlib.Core.Path.{_≡_, refl}
 use mathlib.Core.Bool.{Bool, true, false, cond, not, _||_, _&&_}
 use mathlib.Core.List.{List}
 use mathlib.Core.Option.{Option, none, some}
-use Prim.Native.Nat.{ℕ, _-_, _*_, _/_, _%_, _≤_}
-use native.Mathlib.Omega.{arith}
+use Prim.Native.Nat.{ℕ, _-_, _*_, _/_, _%_}
 use lib.Dec.{eqb, ltb, leb}
-use borrow.Author.Tests.{ne-eqb}
 use Rattle.error.specs.declared.Error.{Error}
 use Rattle.error.specs.declared.ErrnoContext.{ErrnoContext}
 use Rattle.error.specs.Errno.{fromErrno, outOfMemory}
@@ -19,10 +17,9 @@ use Rattle.stream.specs.declared.Answer.{Answer}
 use Rattle.stream.specs.declared.Completion.{Completion}
 use Rattle.stream.specs.declared.Reaping.{Reaping}
 use Rattle.stream.specs.declared.Submission.{Submission}
-use Rattle.ledger.specs.Block.{cookieOf}
-use Rattle.ledger.specs.Reaped.{slotAt, slotOfUrb}
+use Rattle.ledger.specs.Notice.{cookieOf, slotAt, slotOfUrb}
+use Rattle.ledger.specs.Calls.{Call, submitted, reaped, giveBack}
 use Rattle.ledger.proofs.Found.{found-past, found-at}
-use Rattle.history.specs.History.{Call, submitted, reaped, giveBack}
 use Rattle.history.specs.Words.{Entry, said, asked, nothingAsked, given, lastSubmit, sixOrNine, acceptance, slotAtAddress, slotAddressed, notice, fromHand}
 use Rattle.history.proofs.Entries.{Says}
 
@@ -80,49 +77,42 @@ unfolding acceptance notice fromHand sixOrNine asked slotAddressed given
 says-accepted s block a log i last r k =
     record { acc-is = rw r last; ntc-is = rw (r, k); nam-is = refl; sub-is = refl; back-is = rw r; stp-is = refl }
 
--- an errno's refusal is one of 13 to 17
-errno-range : (errno : ℕ) (x : ErrnoContext) → (13 ≤ numberOf (fromErrno errno x)) × (numberOf (fromErrno errno x) ≤ 17)
-unfolding fromErrno outOfMemory
-errno-range errno x =
-    pick (eqb errno 19 || eqb errno 108) Error.Disconnected _ (omega arith)
+-- an errno's refusal is none of 6, 9, 10, 11 and 12
+errno-kept : (errno : ℕ) (x : ErrnoContext) → (sixOrNine (Answer.Refused (fromErrno errno x)) ≡ false) × (committedBack (Answer.Refused (fromErrno errno x)) ≡ false)
+unfolding fromErrno outOfMemory sixOrNine committedBack said
+errno-kept errno x =
+    pick (eqb errno 19 || eqb errno 108) Error.Disconnected _ (refl, refl)
     (pick (eqb errno 12) (outOfMemory errno x) _ (memory x)
-    (pick (eqb errno 13 || eqb errno 1) Error.PermissionDenied _ (omega arith)
-    (pick (eqb errno 25) Error.Unsupported (Error.Io errno) (omega arith) (omega arith))))
+    (pick (eqb errno 13 || eqb errno 1) Error.PermissionDenied _ (refl, refl)
+    (pick (eqb errno 25) Error.Unsupported (Error.Io errno) (refl, refl) (refl, refl))))
   where
-    pick : (b : Bool) (e f : Error) → (13 ≤ numberOf e) × (numberOf e ≤ 17) → (13 ≤ numberOf f) × (numberOf f ≤ 17) → (13 ≤ numberOf (cond b e f)) × (numberOf (cond b e f) ≤ 17)
+    Kept : Error → Type 0
+    Kept e = (sixOrNine (Answer.Refused e) ≡ false) × (committedBack (Answer.Refused e) ≡ false)
+
+    pick : (b : Bool) (e f : Error) → Kept e → Kept f → Kept (cond b e f)
     pick true e f p q = p
     pick false e f p q = q
 
-    memory : (y : ErrnoContext) → (13 ≤ numberOf (outOfMemory errno y)) × (numberOf (outOfMemory errno y) ≤ 17)
-    memory (ErrnoContext.Submit bytes) = omega arith
-    memory ErrnoContext.Other = omega arith
+    memory : (y : ErrnoContext) → Kept (outOfMemory errno y)
+    memory (ErrnoContext.Submit bytes) = (refl, refl)
+    memory ErrnoContext.Other = (refl, refl)
 
 -- submitted with an errno, not 6 or 9: the hand's slot comes back
 pub says-errno : (s : Setup) (errno : ℕ) (block : List ℕ) (x : ErrnoContext) (log : List Entry) → Says s (record { call = submitted (Submission.Errno errno) block; answer = Answer.Refused (fromErrno errno x) }) log none none none none true false
-unfolding acceptance notice fromHand sixOrNine asked slotAddressed said given
+unfolding acceptance notice fromHand asked slotAddressed said given committedBack
 says-errno s errno block x log =
-    let p = errno-range errno x in
     record {
       acc-is = refl;
-      ntc-is = given-none (eqb r 13);
+      ntc-is = given-none (eqb (numberOf (fromErrno errno x)) 13);
       nam-is = refl;
       sub-is = refl;
-      back-is = rw (ne-eqb r 6 (λ z. omega arith), ne-eqb r 9 (λ z. omega arith), ne-eqb r 10 (λ z. omega arith), ne-eqb r 11 (λ z. omega arith), ne-eqb r 12 (λ z. omega arith));
+      back-is = rw (errno-kept errno x .1, errno-kept errno x .0);
       stp-is = refl;
     }
-  where
-    r : ℕ
-    r = numberOf (fromErrno errno x)
 
 -- reaped with an errno: nothing differs
 pub back-errno : (errno : ℕ) (x : ErrnoContext) → committedBack (Answer.Refused (fromErrno errno x)) ≡ false
-unfolding committedBack said
-back-errno errno x =
-    let p = errno-range errno x in
-    rw (ne-eqb r 10 (λ z. omega arith), ne-eqb r 11 (λ z. omega arith), ne-eqb r 12 (λ z. omega arith))
-  where
-    r : ℕ
-    r = numberOf (fromErrno errno x)
+back-errno errno x = errno-kept errno x .1
 
 -- give_back's Done: the hand's slot comes back
 pub says-given-back : (s : Setup) (log : List Entry) → Says s (record { call = giveBack; answer = Answer.Done }) log none none none none true false

@@ -20,12 +20,12 @@ use Rattle.ring.proofs.Truth.{first, one-at-most}
 use Rattle.stream.specs.declared.Answer.{Answer}
 use Rattle.stream.specs.declared.IsoStats.{IsoStats}
 use Rattle.ledger.specs.Ledger.{Ledger, withHand, withQueue, withMarks, marked, markOf, returned, stateIn}
-use Rattle.ledger.specs.Step.{Next, refused, onBlock, onIdle, onHeld, putBack}
+use Rattle.ledger.specs.Step.{Next, Rule, refused, onBlock, byIdle, whenIdle, byHeld, whenHeld, putBack}
 use Rattle.ledger.specs.Turn.{takeFront, silenceFront, onUnderrun}
 use Rattle.ledger.specs.Commit.{send}
+use Rattle.ledger.specs.Calls.{Call}
 use Rattle.ledger.proofs.Valid.{Valid}
 use Rattle.ledger.proofs.Moves.{held-not-free, times-here}
-use Rattle.history.specs.History.{Call}
 use Rattle.history.specs.Words.{Entry, said, asked, nothingAsked, sixOrNine}
 use Rattle.history.proofs.Entries.{Says}
 use Rattle.history.proofs.Hands.{sends}
@@ -64,36 +64,42 @@ module _ (s : Setup) (l : Ledger) (v : Valid (s .slots) l) (log : List Entry) (a
   unfolding one
   hand-away i h p = v .queued i h ∙ ap one (held-not-free l i p)
 
-  -- 6 and 9
-  at-shut : (c : Call) (lent : List ℕ) (e : Error) → Says s (record { call = c; answer = Answer.Refused e }) log none none none none false false → After s c log (l .totals) (refused e l lent)
-  unfolding refused
-  at-shut c lent e says = record { agrees = quiet _ a says; moves = still says (l .totals); underruns-kept = refl }
+  -- nothing differs
+  pub at-rest : (c : Call) (answer : Answer) (lent : List ℕ) → Says s (record { call = c; answer = answer }) log none none none none false false → After s c log (l .totals) (record { ledger = l; answer = answer; lent = lent })
+  at-rest c answer lent w = record { agrees = quiet _ a w; moves = still w (l .totals); underruns-kept = refl }
 
+  -- 6 and 9
   pub at-6 : (c : Call) (lent : List ℕ) → After s c log (l .totals) (refused Error.BlockLength l lent)
-  unfolding sixOrNine said committedBack
-  at-6 c lent = at-shut c lent Error.BlockLength (says-shut s c Error.BlockLength log refl refl refl)
+  unfolding refused sixOrNine said committedBack
+  at-6 c lent = at-rest c (Answer.Refused Error.BlockLength) lent (says-shut s c Error.BlockLength log refl refl refl)
 
   pub at-9 : (c : Call) (lent : List ℕ) → After s c log (l .totals) (refused Error.WrongHand l lent)
-  unfolding sixOrNine said committedBack
-  at-9 c lent = at-shut c lent Error.WrongHand (says-shut s c Error.WrongHand log refl refl refl)
+  unfolding refused sixOrNine said committedBack
+  at-9 c lent = at-rest c (Answer.Refused Error.WrongHand) lent (says-shut s c Error.WrongHand log refl refl refl)
 
-  pub on-block : (c : Call) (block : List ℕ) (next : Next) → After s c log (l .totals) next → After s c log (l .totals) (onBlock s l block next)
+  pub on-block : (c : Call) (rule : Rule) (block : List ℕ) → After s c log (l .totals) (rule s l block) → After s c log (l .totals) (onBlock rule s l block)
   unfolding onBlock
-  on-block c block next p = pick s c log (l .totals) (eqb (length block) (totalOf s)) next _ p (at-6 c block)
+  on-block c rule block p = pick s c log (l .totals) (eqb (length block) (totalOf s)) (rule s l block) _ p (at-6 c block)
 
-  pub on-idle : (c : Call) (h : Hand) (next wrong : Next) → (h ≡ Hand.Idle → After s c log (l .totals) next) → After s c log (l .totals) wrong → After s c log (l .totals) (onIdle h next wrong)
-  unfolding onIdle
-  on-idle c Hand.Idle next wrong p q = p refl
-  on-idle c (Hand.Held i) next wrong p q = q
-  on-idle c (Hand.Sending i) next wrong p q = q
-  on-idle c (Hand.Silent i left) next wrong p q = q
+  pub on-idle : (c : Call) (rule : Rule) (lent : List ℕ) → (l .hand ≡ Hand.Idle → After s c log (l .totals) (rule s l lent)) → After s c log (l .totals) (whenIdle rule s l lent)
+  unfolding whenIdle byIdle
+  on-idle c rule lent p = by (l .hand) refl
+    where
+      by : (h : Hand) → l .hand ≡ h → After s c log (l .totals) (byIdle h (rule s l lent) (refused Error.WrongHand l lent))
+      by Hand.Idle e = p e
+      by (Hand.Held i) e = at-9 c lent
+      by (Hand.Sending i) e = at-9 c lent
+      by (Hand.Silent i left) e = at-9 c lent
 
-  pub on-held : (c : Call) (h : Hand) (next : ℕ → Next) (wrong : Next) → ((i : ℕ) → h ≡ Hand.Held i → After s c log (l .totals) (next i)) → After s c log (l .totals) wrong → After s c log (l .totals) (onHeld h next wrong)
-  unfolding onHeld
-  on-held c Hand.Idle next wrong p q = q
-  on-held c (Hand.Held i) next wrong p q = p i refl
-  on-held c (Hand.Sending i) next wrong p q = q
-  on-held c (Hand.Silent i left) next wrong p q = q
+  pub on-held : (c : Call) (rule : ℕ → Rule) (lent : List ℕ) → ((i : ℕ) → l .hand ≡ Hand.Held i → After s c log (l .totals) (rule i s l lent)) → After s c log (l .totals) (whenHeld rule s l lent)
+  unfolding whenHeld byHeld
+  on-held c rule lent p = by (l .hand) refl
+    where
+      by : (h : Hand) → l .hand ≡ h → After s c log (l .totals) (byHeld h (λ i. rule i s l lent) (refused Error.WrongHand l lent))
+      by Hand.Idle e = at-9 c lent
+      by (Hand.Held i) e = p i e
+      by (Hand.Sending i) e = at-9 c lent
+      by (Hand.Silent i left) e = at-9 c lent
 
   -- turn's taking and silencing
   module _ (c : Call) (plain : asked c ≡ nothingAsked) (idle : l .hand ≡ Hand.Idle) where
@@ -133,7 +139,9 @@ module _ (s : Setup) (l : Ledger) (v : Valid (s .slots) l) (log : List Entry) (a
     unfolding onUnderrun refused said committedBack
     at-policy Underrun.Continue block = at-take (l .queue) refl block
     at-policy Underrun.FillSilence block = at-silence 1 (l .queue) refl block
-    at-policy Underrun.Error block = record { agrees = quiet _ a (says-plain s c (Answer.Refused (Error.Underrun (l .totals .underruns))) log plain); moves = still (says-plain s c (Answer.Refused (Error.Underrun (l .totals .underruns))) log plain) (l .totals); underruns-kept = refl }
+    at-policy Underrun.Error block =
+        let answer = Answer.Refused (Error.Underrun (l .totals .underruns)) in
+        at-rest c answer block (says-plain s c answer log plain)
 
   -- the hand's slot returned
   pub at-back : (i : ℕ) → i < s .slots → ((k : ℕ) → holds (l .hand) k ≡ eqb i k) → (c : Call) (answer : Answer) (lent : List ℕ) → Says s (record { call = c; answer = answer }) log none none none none true false → After s c log (l .totals) (putBack i answer l lent)
@@ -144,7 +152,9 @@ module _ (s : Setup) (l : Ledger) (v : Valid (s .slots) l) (log : List Entry) (a
 
   pub at-send : (i : ℕ) → l .hand ≡ Hand.Held i → (c : Call) → asked c ≡ nothingAsked → (lengths block : List ℕ) → After s c log (l .totals) (send s i lengths l block)
   unfolding send withHand said committedBack
-  at-send i e c plain lengths block = record { agrees = names-again _ a i (says-plain s c (Answer.Submit i) log plain) e; moves = still (says-plain s c (Answer.Submit i) log plain) (l .totals); underruns-kept = refl }
+  at-send i e c plain lengths block =
+      let w = says-plain s c (Answer.Submit i) log plain in
+      record { agrees = names-again _ a i w e; moves = still w (l .totals); underruns-kept = refl }
 
   pub held-only : (i : ℕ) → l .hand ≡ Hand.Held i → (k : ℕ) → holds (l .hand) k ≡ eqb i k
   unfolding holds

@@ -1,4 +1,5 @@
-pub mod Runs
+-- What other crates may cite. `Runs`: a record that keeps step with the ledger. `Logs`: its log is the ledger's. `Holds`: what holds of any such
+-- record. `Demand3`: the theorem. The others say what an entry says and does, call by call, and what the words come to over a list (`Lists`).
 pub mod Entries
 pub mod Marks
 pub mod Hands
@@ -12,4 +13,7 @@ pub mod Submits
 pub mod Notices
 pub mod Steps
 pub mod Lists
+pub mod Runs
+pub mod Logs
+pub mod Holds
 pub mod Demand3

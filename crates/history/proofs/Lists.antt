@@ -7,11 +7,12 @@ use Prim.Native.Nat.{ℕ, zero, suc}
 use lib.ListN.{getD, replicate}
 use Rattle.layout.specs.declared.Setup.{Setup}
 use Rattle.ring.specs.declared.Hand.{Hand}
+use Rattle.ring.specs.Counts.{slotNumbers}
 use Rattle.ring.specs.Slots.{holds}
-use Rattle.stream.specs.Opened.{slotNumbers}
 use Rattle.ledger.specs.Ledger.{home, outs, openedLedger}
+use Rattle.ledger.specs.Calls.{Call}
 use Rattle.ledger.proofs.Valid.{Valid}
-use Rattle.history.specs.History.{Call, ledgerAfter}
+use Rattle.history.specs.History.{ledgerAfter}
 use Rattle.history.specs.Words.{logOf, isOut, inHand, neverLeft, afterDiscard}
 use Rattle.history.specs.Demand3.{those, ascending, Counted}
 use Rattle.history.specs.Sums.{total, underruns}

@@ -18,22 +18,22 @@ use Rattle.ring.specs.Slots.{one}
 use Rattle.stream.specs.declared.Answer.{Answer}
 use Rattle.stream.specs.declared.Reaping.{Reaping}
 use Rattle.ledger.specs.Ledger.{Ledger, Mark, home, out, discarded, withQueue, withMarks, withTotals, marked, markOf, returned}
-use Rattle.ledger.specs.Block.{completionOf}
-use Rattle.ledger.specs.Step.{Next, refused}
-use Rattle.ledger.specs.Reaped.{slotOfUrb, isGone, oneCompleted, noticed, byAddress, byErrno, reapedIdle}
+use Rattle.ledger.specs.Notice.{slotOfUrb, completionOf}
+use Rattle.ledger.specs.Step.{Next, refused, whenIdle}
+use Rattle.ledger.specs.Reaped.{isGone, oneCompleted, noticed, byAddress, byErrno, reapedIdle}
 use Rattle.ledger.specs.Reaped as Reaped
+use Rattle.ledger.specs.Calls.{reaped, lentTo}
 use Rattle.ledger.proofs.Valid.{Valid}
 use Rattle.ledger.proofs.Moves.{away-not-free}
 use Rattle.ledger.proofs.Rings.{away}
 use Rattle.ledger.proofs.KeptReplies.{away-below}
-use Rattle.history.specs.History.{reaped, lentTo}
 use Rattle.history.specs.Words.{Entry, asked, slotAtAddress, afterDiscard}
 use Rattle.history.proofs.Entries.{Says}
 use Rattle.history.proofs.Marks.{Discards}
-use Rattle.history.proofs.Totals.{still, one-completed, none-completed}
+use Rattle.history.proofs.Totals.{one-completed, none-completed}
 use Rattle.history.proofs.Answers.{back-errno, says-noticed, says-gone, says-foreign, says-stray, slot-addressed}
-use Rattle.history.proofs.Effects.{Agrees, quiet, notices}
-use Rattle.history.proofs.Gates.{After, says-nothing, says-refusal, at-9, on-block, on-idle}
+use Rattle.history.proofs.Effects.{Agrees, notices}
+use Rattle.history.proofs.Gates.{After, says-nothing, says-refusal, at-rest, on-block, on-idle}
 
 away≢home : 1 ≡ away home → ⊥
 unfolding away
@@ -78,8 +78,7 @@ module _ (s : Setup) (l : Ledger) (v : Valid (s .slots) l) (log : List Entry) (a
 
     at-mark : (i : ℕ) → slotAtAddress s address ≡ i → (m : Mark) → markOf l i ≡ m → After s (reaped (Reaping.Address address) block) log (l .totals) (noticed s m i l block)
     unfolding noticed refused withTotals returned withQueue marked withMarks lentTo markOf oneCompleted
-    at-mark i at home e =
-        record { agrees = quiet _ a (says-stray s address block log); moves = still (says-stray s address block log) (l .totals); underruns-kept = refl }
+    at-mark i at home e = at-rest s l v log a (reaped (Reaping.Address address) block) (Answer.Refused Error.StrayNotice) block (says-stray s address block log)
     at-mark i at out e = by-status (isGone (completionOf s i false block .status))
       where
         fresh : afterDiscard i log ≡ false
@@ -120,7 +119,7 @@ module _ (s : Setup) (l : Ledger) (v : Valid (s .slots) l) (log : List Entry) (a
 
     at-address : (f : Found) → slotOfUrb s address block ≡ f → After s (reaped (Reaping.Address address) block) log (l .totals) (byAddress s f l block)
     unfolding byAddress
-    at-address Found.Nothing e = record { agrees = quiet _ a (says-foreign s address block log); moves = still (says-foreign s address block log) (l .totals); underruns-kept = refl }
+    at-address Found.Nothing e = at-rest s l v log a (reaped (Reaping.Address address) block) Answer.Foreign block (says-foreign s address block log)
     at-address (Found.Slot i) e = at-mark i (slot-addressed s address block i e) (markOf l i) refl
 
   at-errno : (e : ℕ) (block : List ℕ) → After s (reaped (Reaping.Errno e) block) log (l .totals) (byErrno e l block)
@@ -128,14 +127,13 @@ module _ (s : Setup) (l : Ledger) (v : Valid (s .slots) l) (log : List Entry) (a
   at-errno e block = by-errno (eqb e 11)
     where
       by-errno : (b : Bool) → After s (reaped (Reaping.Errno e) block) log (l .totals) (record { ledger = l; answer = cond b Answer.Nothing (Answer.Refused (fromErrno e ErrnoContext.Other)); lent = block })
-      by-errno true =
-          let w = says-nothing s (reaped (Reaping.Errno e) block) log refl in
-          record { agrees = quiet _ a w; moves = still w (l .totals); underruns-kept = refl }
+      by-errno true = at-rest s l v log a (reaped (Reaping.Errno e) block) Answer.Nothing block (says-nothing s (reaped (Reaping.Errno e) block) log refl)
       by-errno false =
-          let w = says-refusal s (reaped (Reaping.Errno e) block) (fromErrno e ErrnoContext.Other) log refl (back-errno e ErrnoContext.Other) in
-          record { agrees = quiet _ a w; moves = still w (l .totals); underruns-kept = refl }
+          let error = fromErrno e ErrnoContext.Other in
+          at-rest s l v log a (reaped (Reaping.Errno e) block) (Answer.Refused error) block
+          (says-refusal s (reaped (Reaping.Errno e) block) error log refl (back-errno e ErrnoContext.Other))
 
-  at-reaping : l .hand ≡ Hand.Idle → (r : Reaping) (block : List ℕ) → After s (reaped r block) log (l .totals) (reapedIdle s r l block)
+  at-reaping : l .hand ≡ Hand.Idle → (r : Reaping) (block : List ℕ) → After s (reaped r block) log (l .totals) (reapedIdle r s l block)
   unfolding reapedIdle
   at-reaping idle (Reaping.Errno e) block = at-errno e block
   at-reaping idle (Reaping.Address address) block = at-address idle address block (slotOfUrb s address block) refl
@@ -143,4 +141,5 @@ module _ (s : Setup) (l : Ledger) (v : Valid (s .slots) l) (log : List Entry) (a
   pub at-reaped : (r : Reaping) (block : List ℕ) → After s (reaped r block) log (l .totals) (Reaped.reaped r s l block)
   unfolding Reaped.reaped
   at-reaped r block =
-      on-block s l v log a (reaped r block) block _ (on-idle s l v log a (reaped r block) (l .hand) _ _ (λ idle. at-reaping idle r block) (at-9 s l v log a (reaped r block) block))
+      on-block s l v log a (reaped r block) (whenIdle (reapedIdle r)) block
+      (on-idle s l v log a (reaped r block) (reapedIdle r) block (λ idle. at-reaping idle r block))

@@ -9,10 +9,9 @@ use lib.Dec.{eqb}
 use lib.ListN.{length}
 use borrow.Author.Tests.{eq-eqb, ne-eqb}
 use Rattle.layout.specs.declared.Setup.{Setup}
-use Rattle.ring.specs.Counts.{times}
+use Rattle.ring.specs.Counts.{slotNumbers, times}
 use Rattle.ring.specs.Slots.{one}
 use Rattle.ring.proofs.Counts.{times-append}
-use Rattle.stream.specs.Opened.{slotNumbers}
 use Rattle.history.specs.Words.{Entry, isSlot, return, neverLeft, lastReturn}
 use Rattle.history.specs.Demand3.{those, ascending, InOrder}
 use Rattle.history.proofs.Filtered.{those-same, those-twice, those-without, those-none, those-append, those-tail, map-without, under-map, ascending-append, ascending-tail}

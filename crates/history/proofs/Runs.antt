@@ -1,40 +1,28 @@
--- The record and the ledger keep step: by induction over the list, the record is sound and shows the ledger, since every rule keeps a
+-- The record and the ledger keep step: by induction over the list, the record is sound and shows the ledger, since every call keeps a
 -- ledger valid and storing a valid ledger gives a sound record that shows it. Assumes nothing.
 use mathlib.Core.Path.{_≡_, refl, sym, ap₂, subst, _∙_}
-use mathlib.Core.Bool.{true}
+use mathlib.Core.Bool.{true, false}
 use mathlib.Core.List.{List, [], _∷_}
-use Prim.Native.Nat.{ℕ}
 use Rattle.layout.specs.declared.Setup.{Setup}
+use Rattle.layout.specs.Opening.{admissible}
+use Rattle.ring.specs.declared.Hand.{Hand}
+use Rattle.ring.specs.Parts.{stateOf, freeRing}
+use Rattle.ring.proofs.Numbers.{table-alike}
+use Rattle.ring.proofs.States.{all-free}
 use Rattle.ring.proofs.Wide.{Wide}
 use Rattle.stream.specs.declared.Stream.{Stream}
-use Rattle.stream.specs.Opened.{openedStream}
-use Rattle.stream.specs.Parts.{withState}
+use Rattle.stream.specs.Parts.{noStats}
 use Rattle.stream.specs.Sound.{sound}
-use Rattle.stream.proofs.Soundness.{setup-accepted}
-use Rattle.ledger.specs.Ledger.{Ledger, openedLedger}
-use Rattle.ledger.specs.Commit.{commitFull}
-use Rattle.ledger.specs.Block.{capacityOf}
-use Rattle.ledger.specs.Record.{view, stored, Outcome, call}
+use Rattle.stream.proofs.Soundness.{setup-admissible}
+use Rattle.opening.specs.Opened.{openedStream}
+use Rattle.opening.proofs.Fresh.{opened-sound, opened-wide, queue-all}
+use Rattle.ledger.specs.Ledger.{Ledger, home, openedLedger}
+use Rattle.ledger.specs.Record.{markFor, view, stored, Outcome, call}
+use Rattle.ledger.specs.Calls.{Call, rule, lentTo, stepOf, made}
 use Rattle.ledger.proofs.Valid.{Valid, sound-valid, stored-wide, stored-sound, view-stored}
-use Rattle.ledger.proofs.Kept as Kept
-use Rattle.ledger.proofs.KeptReplies as Replies
-use Rattle.ledger.proofs.KeptControl as Control
+use Rattle.ledger.proofs.Steps.{step-valid}
 use Rattle.ledger.proofs.Calls.{stored-setup}
-use Rattle.history.specs.History.{Call, turn, commit, commitFull as commitFullCall, commitPackets, submitted, reaped, giveBack, start, stop, finish, rule, lentTo, stepOf, made, ledgerAfter, recordAfter}
-
--- every call keeps a ledger valid
-pub step-valid : (n : ℕ) (s : Setup) (c : Call) (l : Ledger) → Valid n l → Valid n (stepOf s c l .ledger)
-unfolding stepOf rule commitFull
-step-valid n s (turn block) l v = Kept.turn-valid n s l _ v
-step-valid n s (commit bytes block) l v = Kept.commit-valid n bytes s l _ v
-step-valid n s (commitFullCall block) l v = Kept.commit-valid n (capacityOf s) s l _ v
-step-valid n s (commitPackets lengths block) l v = Kept.packets-valid n lengths s l _ v
-step-valid n s (submitted reply block) l v = Replies.submitted-valid n reply s l _ v
-step-valid n s (reaped reply block) l v = Replies.reaped-valid n reply s l _ v
-step-valid n s giveBack l v = Control.give-back-valid n s l _ v
-step-valid n s start l v = Control.start-valid n s l _ v
-step-valid n s (stop list) l v = Control.stop-valid n s l _ v
-step-valid n s finish l v = Control.finish-valid n s l _ v
+use Rattle.history.specs.History.{ledgerAfter, recordAfter}
 
 -- the record r keeps step with the ledger l
 pub record InStep (s : Setup) (r : Stream) (l : Ledger) : Type 0 where
@@ -68,13 +56,37 @@ module _ (s : Setup) (r : Stream) (l : Ledger) (k : InStep s r l) where
       next =
           record {
             setup = stored-setup r (stepOf s c l .ledger) ∙ k .setup;
-            ok = stored-sound r _ valid (setup-accepted r (k .ok)) (k .wide);
-            wide = stored-wide r _ valid (setup-accepted r (k .ok)) (k .wide);
-            shown = view-stored r _ valid (setup-accepted r (k .ok)) (k .wide);
+            ok = stored-sound r _ valid (setup-admissible r (k .ok)) (k .wide);
+            wide = stored-wide r _ valid (setup-admissible r (k .ok)) (k .wide);
+            shown = view-stored r _ valid (setup-admissible r (k .ok)) (k .wide);
           }
 
 -- the whole list
-pub in-step : (s : Setup) → InStep s (openedStream s) (openedLedger (s .slots)) → (h : List Call) → InStep s (recordAfter s h) (ledgerAfter s h)
+pub in-step : (s : Setup) (first : Stream) → InStep s first (openedLedger (s .slots)) → (h : List Call) → InStep s (recordAfter first h) (ledgerAfter s h)
 unfolding recordAfter ledgerAfter
-in-step s k [] = k
-in-step s k (c ∷ h) = in-step-next s (recordAfter s h) (ledgerAfter s h) (in-step s k h) c
+in-step s first k [] = k
+in-step s first k (c ∷ h) = in-step-next s (recordAfter first h) (ledgerAfter s h) (in-step s first k h) c
+
+-- from the record that opening makes
+module _ (s : Setup) (ok : admissible s ≡ true) where
+  pub opened-in-step : InStep s (openedStream s) (openedLedger (s .slots))
+  unfolding openedStream openedLedger view markFor
+  opened-in-step =
+      record {
+        setup = refl;
+        ok = opened-sound s ok;
+        wide = opened-wide s ok;
+        shown =
+            λ i.
+            record {
+              hand = Hand.Idle;
+              queue = queue-all (s .slots) i;
+              marks = table-alike (λ j. markFor (stateOf (freeRing (s .slots)) j)) home (s .slots) (λ j h. rw (all-free (s .slots) j)) i;
+              started = false;
+              armed = false;
+              totals = noStats;
+            };
+      }
+
+  pub valid-after : (h : List Call) → Valid (s .slots) (ledgerAfter s h)
+  valid-after h = in-step-valid s (recordAfter (openedStream s) h) (ledgerAfter s h) (in-step s (openedStream s) opened-in-step h)

@@ -10,28 +10,28 @@ use Rattle.error.specs.declared.Error.{Error}
 use Rattle.layout.specs.declared.Setup.{Setup}
 use Rattle.layout.specs.Layout.{anyAbove}
 use Rattle.layout.specs.declared.Underrun.{Underrun}
-use Rattle.layout.specs.Opening.{totalOf}
+use Rattle.layout.specs.Opening.{totalOf, capacityOf}
 use Rattle.ring.specs.declared.Hand.{Hand}
 use Rattle.ring.specs.Slots.{one}
 use Rattle.stream.specs.declared.Answer.{Answer}
 use Rattle.ledger.specs.Ledger.{Ledger, withMarks, withFlags, withTotals, outs}
-use Rattle.ledger.specs.Block.{capacityOf, shares}
-use Rattle.ledger.specs.Step.{Next, refused, onBlock, onIdle, putBack}
+use Rattle.ledger.specs.Slot.{lengthsOf}
+use Rattle.ledger.specs.Step.{Next, refused, onBlock, byIdle, whenIdle, whenHeld, putBack}
 use Rattle.ledger.specs.Turn.{takeFront, silenceFront, drained, oneUnderrun, underrun, onUnderrun, turnIdle}
 use Rattle.ledger.specs.Commit.{send, commitHeld, packetsHeld}
-use Rattle.ledger.specs.Control.{startedLedger, discardAll, inFlightFrom, stopIdle}
+use Rattle.ledger.specs.Control.{giveBackHeld, startedLedger, startIdle, discardAll, inFlightFrom, stopIdle, finishIdle}
 use Rattle.ledger.specs.Turn as Turn
 use Rattle.ledger.specs.Commit as Commit
 use Rattle.ledger.specs.Control as Control
+use Rattle.ledger.specs.Calls.{Call, turn, commit, commitFull, commitPackets, submitted, reaped, giveBack, start, stop, finish, rule, lentTo, stepOf}
 use Rattle.ledger.proofs.Valid.{Valid}
 use Rattle.ledger.proofs.Kept.{in-held, underrun-valid}
-use Rattle.history.specs.History.{Call, turn, commit, commitFull, commitPackets, submitted, reaped, giveBack, start, stop, finish, rule, lentTo, stepOf}
 use Rattle.history.specs.Words.{Entry, said, asked, nothingAsked, sixOrNine}
 use Rattle.history.specs.Sums.{isTurn}
 use Rattle.history.proofs.Totals.{Adds, adds, stays, Moves, still}
 use Rattle.history.proofs.Answers.{committedBack, says-plain, says-given-back}
 use Rattle.history.proofs.Effects.{Agrees, quiet, stops}
-use Rattle.history.proofs.Gates.{After, pick, says-refusal, at-6, at-9, on-block, on-idle, on-held, at-take, at-policy, at-back, at-send, held-only}
+use Rattle.history.proofs.Gates.{After, pick, says-refusal, at-rest, at-6, at-9, on-block, on-idle, on-held, at-take, at-policy, at-back, at-send, held-only}
 use Rattle.history.proofs.Submits.{at-submitted}
 use Rattle.history.proofs.Notices.{at-reaped}
 
@@ -40,21 +40,20 @@ module _ (s : Setup) (l : Ledger) (v : Valid (s .slots) l) (log : List Entry) (a
   at-commit : (c : Call) → asked c ≡ nothingAsked → (bytes : ℕ) (block : List ℕ) → After s c log (l .totals) (Commit.commit bytes s l block)
   unfolding Commit.commit commitHeld said committedBack
   at-commit c plain bytes block =
-      on-block s l v log a c block _
-      (on-held s l v log a c (l .hand) _ _
+      on-block s l v log a c (whenHeld (commitHeld bytes)) block
+      (on-held s l v log a c (commitHeld bytes) block
       (λ i e.
       pick s c log (l .totals) (ltb (capacityOf s) bytes) (putBack i (Answer.Refused Error.CommitTooLong) l block)
-      (send s i (shares (s .«packets_per_urb») (s .«packet_bytes») bytes) l block)
+      (send s i (lengthsOf s bytes) l block)
       (at-back s l v log a i (in-held (s .slots) l v i e) (held-only s l v log a i e) c (Answer.Refused Error.CommitTooLong) block
       (says-plain s c (Answer.Refused Error.CommitTooLong) log plain))
-      (at-send s l v log a i e c plain (shares (s .«packets_per_urb») (s .«packet_bytes») bytes) block))
-      (at-9 s l v log a c block))
+      (at-send s l v log a i e c plain (lengthsOf s bytes) block)))
 
   at-packets : (c : Call) → asked c ≡ nothingAsked → (lengths block : List ℕ) → After s c log (l .totals) (Commit.commitPackets lengths s l block)
   unfolding Commit.commitPackets packetsHeld said committedBack
   at-packets c plain lengths block =
-      on-block s l v log a c block _
-      (on-held s l v log a c (l .hand) _ _
+      on-block s l v log a c (whenHeld (packetsHeld lengths)) block
+      (on-held s l v log a c (packetsHeld lengths) block
       (λ i e.
       let count = putBack i (Answer.Refused Error.PacketCount) l block in
       let long = putBack i (Answer.Refused Error.PacketTooLong) l block in
@@ -65,52 +64,50 @@ module _ (s : Setup) (l : Ledger) (v : Valid (s .slots) l) (log : List Entry) (a
       (pick s c log (l .totals) above long (send s i lengths l block)
       (at-back s l v log a i (in-held (s .slots) l v i e) (held-only s l v log a i e) c (Answer.Refused Error.PacketTooLong) block
       (says-plain s c (Answer.Refused Error.PacketTooLong) log plain))
-      (at-send s l v log a i e c plain lengths block)))
-      (at-9 s l v log a c block))
+      (at-send s l v log a i e c plain lengths block))))
 
   -- give_back, start, stop, finish
   at-give-back : (lent : List ℕ) → After s giveBack log (l .totals) (Control.giveBack s l lent)
-  unfolding Control.giveBack
+  unfolding Control.giveBack giveBackHeld
   at-give-back lent =
-      on-held s l v log a giveBack (l .hand) _ _
+      on-held s l v log a giveBack giveBackHeld lent
       (λ i e. at-back s l v log a i (in-held (s .slots) l v i e) (held-only s l v log a i e) giveBack Answer.Done lent (says-given-back s log))
-      (at-9 s l v log a giveBack lent)
 
   at-started : (b : Bool) (lent : List ℕ) → After s start log (l .totals) (record { ledger = startedLedger b l; answer = Answer.Done; lent = lent })
   unfolding startedLedger withFlags said committedBack asked
-  at-started true lent = record { agrees = quiet _ a (says-plain s start Answer.Done log refl); moves = still (says-plain s start Answer.Done log refl) (l .totals); underruns-kept = refl }
-  at-started false lent = record { agrees = quiet _ a (says-plain s start Answer.Done log refl); moves = still (says-plain s start Answer.Done log refl) (l .totals); underruns-kept = refl }
+  at-started true lent = at-rest s l v log a start Answer.Done lent (says-plain s start Answer.Done log refl)
+  at-started false lent =
+      let w = says-plain s start Answer.Done log refl in
+      record { agrees = quiet _ a w; moves = still w (l .totals); underruns-kept = refl }
 
   at-start : (lent : List ℕ) → After s start log (l .totals) (Control.start s l lent)
-  unfolding Control.start
-  at-start lent = on-idle s l v log a start (l .hand) _ _ (λ e. at-started (l .started) lent) (at-9 s l v log a start lent)
+  unfolding Control.start startIdle
+  at-start lent = on-idle s l v log a start startIdle lent (λ e. at-started (l .started) lent)
 
   at-stop : (list : List ℕ) → After s (stop list) log (l .totals) (Control.stop s l list)
   unfolding Control.stop stopIdle refused withFlags withMarks said committedBack asked
   at-stop list =
-      on-idle s l v log a (stop list) (l .hand) _ _
+      on-idle s l v log a (stop list) stopIdle list
       (λ e.
       let slots = inFlightFrom 0 (l .marks) in
+      let w = says-plain s (stop list) (Answer.Stopped (length slots)) log refl in
       pick s (stop list) log (l .totals) (ltb (length list) (length slots)) (refused Error.ListTooShort l list)
       (record {
         ledger = withFlags false false (withMarks (discardAll (l .marks)) l);
         answer = Answer.Stopped (length slots);
         lent = slots ++ drop (length slots) list;
       })
-      (record { agrees = quiet _ a (says-plain s (stop list) (Answer.Refused Error.ListTooShort) log refl); moves = still (says-plain s (stop list) (Answer.Refused Error.ListTooShort) log refl) (l .totals); underruns-kept = refl })
-      (record { agrees = stops _ a (says-plain s (stop list) (Answer.Stopped (length slots)) log refl); moves = still (says-plain s (stop list) (Answer.Stopped (length slots)) log refl) (l .totals); underruns-kept = refl }))
-      (at-9 s l v log a (stop list) list)
+      (at-rest s l v log a (stop list) (Answer.Refused Error.ListTooShort) list (says-plain s (stop list) (Answer.Refused Error.ListTooShort) log refl))
+      (record { agrees = stops _ a w; moves = still w (l .totals); underruns-kept = refl }))
 
   at-finish : (lent : List ℕ) → After s finish log (l .totals) (Control.finish s l lent)
-  unfolding Control.finish said committedBack asked
-  at-finish lent = on-idle s l v log a finish (l .hand) _ _ (λ e. by-outs (eqb (outs (l .marks)) 0)) (at-9 s l v log a finish lent)
+  unfolding Control.finish finishIdle said committedBack asked
+  at-finish lent = on-idle s l v log a finish finishIdle lent (λ e. by-outs (eqb (outs (l .marks)) 0))
     where
       by-outs : (b : Bool) → After s finish log (l .totals) (record { ledger = l; answer = cond b Answer.Yes (Answer.Refused Error.Disconnected); lent = lent })
-      by-outs true =
-          record { agrees = quiet _ a (says-plain s finish Answer.Yes log refl); moves = still (says-plain s finish Answer.Yes log refl) (l .totals); underruns-kept = refl }
+      by-outs true = at-rest s l v log a finish Answer.Yes lent (says-plain s finish Answer.Yes log refl)
       by-outs false =
-          let w = says-refusal s finish Error.Disconnected log refl refl in
-          record { agrees = quiet _ a w; moves = still w (l .totals); underruns-kept = refl }
+          at-rest s l v log a finish (Answer.Refused Error.Disconnected) lent (says-refusal s finish Error.Disconnected log refl refl)
 
 -- After a call on the ledger l that gave x: the words agree, and every counter moved by the call's figure.
 pub record Stepped (s : Setup) (c : Call) (log : List Entry) (l : Ledger) (x : Next) : Type 0 where
@@ -184,18 +181,18 @@ idle-stepped s l v log a idle block false d =
     uncounted s (turn block) log l (takeFront (l .queue) l block) (rw d (undrained (not (sixOrNine (takeFront (l .queue) l block .answer)))))
     (at-take s l v log a (turn block) refl idle (l .queue) refl block)
 
-hand-stepped : (s : Setup) (l : Ledger) → Valid (s .slots) l → (log : List Entry) → Agrees s (l .hand) (l .queue) (l .marks) log → (block : List ℕ) (h : Hand) → l .hand ≡ h → Stepped s (turn block) log l (onIdle h (turnIdle s l block) (refused Error.WrongHand l block))
-unfolding onIdle turnIdle refused isTurn sixOrNine said one
+hand-stepped : (s : Setup) (l : Ledger) → Valid (s .slots) l → (log : List Entry) → Agrees s (l .hand) (l .queue) (l .marks) log → (block : List ℕ) (h : Hand) → l .hand ≡ h → Stepped s (turn block) log l (byIdle h (turnIdle s l block) (refused Error.WrongHand l block))
+unfolding byIdle turnIdle refused isTurn sixOrNine said one
 hand-stepped s l v log a block Hand.Idle e = idle-stepped s l v log a e block (drained l) refl
 hand-stepped s l v log a block (Hand.Held i) e = uncounted s (turn block) log l _ refl (at-9 s l v log a (turn block) block)
 hand-stepped s l v log a block (Hand.Sending i) e = uncounted s (turn block) log l _ refl (at-9 s l v log a (turn block) block)
 hand-stepped s l v log a block (Hand.Silent i left) e = uncounted s (turn block) log l _ refl (at-9 s l v log a (turn block) block)
 
 turn-stepped : (s : Setup) (l : Ledger) → Valid (s .slots) l → (log : List Entry) → Agrees s (l .hand) (l .queue) (l .marks) log → (block : List ℕ) → Stepped s (turn block) log l (Turn.turn s l block)
-unfolding Turn.turn onBlock refused isTurn sixOrNine said one
+unfolding Turn.turn onBlock whenIdle refused isTurn sixOrNine said one
 turn-stepped s l v log a block = by-length (eqb (length block) (totalOf s))
   where
-    by-length : (b : Bool) → Stepped s (turn block) log l (cond b (onIdle (l .hand) (turnIdle s l block) (refused Error.WrongHand l block)) (refused Error.BlockLength l block))
+    by-length : (b : Bool) → Stepped s (turn block) log l (cond b (whenIdle turnIdle s l block) (refused Error.BlockLength l block))
     by-length true = hand-stepped s l v log a block (l .hand) refl
     by-length false = uncounted s (turn block) log l _ refl (at-6 s l v log a (turn block) block)
 

@@ -16,11 +16,11 @@ use Rattle.stream.specs.declared.Answer.{Answer}
 use Rattle.stream.specs.declared.Submission.{Submission}
 use Rattle.ledger.specs.Ledger.{Ledger, home, withHand, withQueue, withMarks, withFlags, withTotals, marked, markOf}
 use Rattle.ledger.specs.Turn.{takeFront, silenceFront}
-use Rattle.ledger.specs.Submitted.{acceptedLedger, submitFailed, sent, chained, silent, bySending}
+use Rattle.ledger.specs.Submitted.{acceptedLedger, submitFailed, sent, chained, silent, bySending, submittedHand}
 use Rattle.ledger.specs.Submitted as Submitted
+use Rattle.ledger.specs.Calls.{submitted, lentTo}
 use Rattle.ledger.proofs.Valid.{Valid}
 use Rattle.ledger.proofs.Kept.{in-sending, in-silent}
-use Rattle.history.specs.History.{submitted, lentTo}
 use Rattle.history.specs.Words.{Entry, said, lastSubmit}
 use Rattle.history.proofs.Hands.{sends}
 use Rattle.history.proofs.Totals.{one-submitted}
@@ -49,15 +49,19 @@ module _ (s : Setup) (l : Ledger) (v : Valid (s .slots) l) (log : List Entry) (a
     at-home : markOf l i ≡ home
     at-home = v .at-home i below in-hand
 
-    at-sent : (r : Submission) → After s (submitted r block) log (l .totals) (sent s r i l block)
+    at-sent : (r : Submission) → After s (submitted r block) log (l .totals) (sent r i s l block)
     unfolding sent acceptedLedger lentTo withHand withTotals withFlags marked withMarks markOf said Submitted.oneSubmitted
-    at-sent Submission.Accepted = record { agrees = accepts _ a i (says-accepted s block Answer.Done log i last refl refl) held marks-long at-home; moves = one-submitted i (says-accepted s block Answer.Done log i last refl refl) (l .totals); underruns-kept = refl }
+    at-sent Submission.Accepted =
+        let w = says-accepted s block Answer.Done log i last refl refl in
+        record { agrees = accepts _ a i w held marks-long at-home; moves = one-submitted i w (l .totals); underruns-kept = refl }
     at-sent (Submission.Errno e) = at-failed e
 
     -- accepted, and the next front slot taken, for the host or silenced
     at-next-take : (q : List ℕ) → l .queue ≡ q → After s (submitted Submission.Accepted block) log (l .totals) (takeFront q (acceptedLedger s i l block) block)
     unfolding takeFront acceptedLedger lentTo withHand withQueue withTotals withFlags marked withMarks markOf said holds sends Submitted.oneSubmitted
-    at-next-take [] p = record { agrees = accepts _ a i (says-accepted s block Answer.Nothing log i last refl refl) held marks-long at-home; moves = one-submitted i (says-accepted s block Answer.Nothing log i last refl refl) (l .totals); underruns-kept = refl }
+    at-next-take [] p =
+        let w = says-accepted s block Answer.Nothing log i last refl refl in
+        record { agrees = accepts _ a i w held marks-long at-home; moves = one-submitted i w (l .totals); underruns-kept = refl }
     at-next-take (j ∷ rest) p =
         record {
           agrees = accepts-and-takes _ a i j rest (says-accepted s block (Answer.Slot j) log i last refl refl) held marks-long at-home p (once s l v log a j rest p)
@@ -82,12 +86,12 @@ module _ (s : Setup) (l : Ledger) (v : Valid (s .slots) l) (log : List Entry) (a
     at-chained zero = at-next-take (l .queue) refl
     at-chained (suc more) = at-next-silence more (l .queue) refl
 
-    at-silent : (r : Submission) (left : ℕ) → After s (submitted r block) log (l .totals) (silent s r i left l block)
+    at-silent : (r : Submission) (left : ℕ) → After s (submitted r block) log (l .totals) (silent r i left s l block)
     unfolding silent
     at-silent Submission.Accepted left = at-chained left
     at-silent (Submission.Errno e) left = at-failed e
 
-  at-sending : (r : Submission) (block : List ℕ) (h : Hand) → l .hand ≡ h → After s (submitted r block) log (l .totals) (bySending h s r l block)
+  at-sending : (r : Submission) (block : List ℕ) (h : Hand) → l .hand ≡ h → After s (submitted r block) log (l .totals) (bySending r h s l block)
   unfolding bySending holds sends
   at-sending r block Hand.Idle e = at-9 s l v log a (submitted r block) block
   at-sending r block (Hand.Held i) e = at-9 s l v log a (submitted r block) block
@@ -97,5 +101,5 @@ module _ (s : Setup) (l : Ledger) (v : Valid (s .slots) l) (log : List Entry) (a
       at-silent i (in-silent (s .slots) l v i left e .0) (λ k. ap (λ (h : Hand). holds h k) e) (ap (λ (h : Hand). sends h i) e ∙ eq-eqb i i refl) block r left
 
   pub at-submitted : (r : Submission) (block : List ℕ) → After s (submitted r block) log (l .totals) (Submitted.submitted r s l block)
-  unfolding Submitted.submitted
-  at-submitted r block = on-block s l v log a (submitted r block) block _ (at-sending r block (l .hand) refl)
+  unfolding Submitted.submitted submittedHand
+  at-submitted r block = on-block s l v log a (submitted r block) (submittedHand r) block (at-sending r block (l .hand) refl)

@@ -12,22 +12,22 @@ use Rattle.ring.specs.Slots.{one}
 use Rattle.stream.specs.declared.Completion.{Completion}
 use Rattle.stream.specs.declared.IsoStats.{IsoStats}
 use Rattle.ledger.specs.Ledger.{Mark, outs, plus}
-use Rattle.ledger.specs.Block.{bufferBytes, completionOf}
+use Rattle.ledger.specs.Notice.{bufferBytes, completionOf}
 use Rattle.ledger.specs.Reaped.{oneCompleted, urbError}
 use Rattle.ledger.specs.Submitted.{oneSubmitted}
-use Rattle.history.specs.History.{lentTo}
+use Rattle.ledger.specs.Calls.{lentTo}
 use Rattle.history.specs.Words.{Entry, afterDiscard}
-use Rattle.history.specs.Sums.{total, of, accepted, bytesAccepted, ofCompleted, completed, transferred, shortBytes, packetErrors, urbErrors, afterDiscards}
+use Rattle.history.specs.Sums.{total, of, acceptances, bytesAccepted, ofCompleted, completed, transferred, shortBytes, packetErrors, urbErrors, afterDiscards}
 use Rattle.history.proofs.Entries.{Says}
 
 -- Every acceptance was noticed, or its slot is out.
 pub record Conserved (s : Setup) (marks : List Mark) (log : List Entry) : Type 0 where
-  pub is : total accepted log ≡ total (completed s) log + total (afterDiscards s) log + outs marks
+  pub is : total acceptances log ≡ total (completed s) log + total (afterDiscards s) log + outs marks
 
 module _ {s : Setup} {e : Entry} {log : List Entry} {acc ntc nam sub : Option ℕ} {back stp : Bool} (w : Says s e log acc ntc nam sub back stp) where
-  pub accepted-is : accepted e log ≡ of acc (λ i. 1)
-  unfolding accepted
-  accepted-is = rw (w .acc-is)
+  pub acceptances-is : acceptances e log ≡ of acc (λ i. 1)
+  unfolding acceptances
+  acceptances-is = rw (w .acc-is)
 
   pub bytes-is : bytesAccepted s e log ≡ of acc (λ i. bufferBytes s i (lentTo (e .call)))
   unfolding bytesAccepted
@@ -51,17 +51,17 @@ module _ {s : Setup} (e : Entry) {log : List Entry} {marks : List Mark} (c : Con
   pub conserved-kept : {nam sub : Option ℕ} {back stp : Bool} → Says s e log none none nam sub back stp → (now : List Mark) → outs now ≡ outs marks → Conserved s now (e ∷ log)
   unfolding total of completed
   conserved-kept w now same =
-      record { is = omega (arith, accepted-is w, completed-is w (λ x. 1), discards-is w, c .is) }
+      record { is = omega (arith, acceptances-is w, completed-is w (λ x. 1), discards-is w, c .is) }
 
   pub conserved-accepted : {nam sub : Option ℕ} {back stp : Bool} (i : ℕ) → Says s e log (some i) none nam sub back stp → (now : List Mark) → outs now ≡ outs marks + 1 → Conserved s now (e ∷ log)
   unfolding total of completed
   conserved-accepted i w now more =
-      record { is = omega (arith, accepted-is w, completed-is w (λ x. 1), discards-is w, c .is) }
+      record { is = omega (arith, acceptances-is w, completed-is w (λ x. 1), discards-is w, c .is) }
 
   pub conserved-noticed : {nam sub : Option ℕ} {back stp : Bool} (i : ℕ) → Says s e log none (some i) nam sub back stp → (now : List Mark) → outs now + 1 ≡ outs marks → Conserved s now (e ∷ log)
   unfolding total of completed
   conserved-noticed i w now less =
-      record { is = omega (arith, accepted-is w, completed-is w (λ x. 1), discards-is w, one-of-two (afterDiscard i log), c .is) }
+      record { is = omega (arith, acceptances-is w, completed-is w (λ x. 1), discards-is w, one-of-two (afterDiscard i log), c .is) }
 
 -- a counter that adds the figure of one more call
 pub added : (t sum x : ℕ) → t ≡ sum % 2 ^ 64 → plus t x ≡ (x + sum) % 2 ^ 64
@@ -86,7 +86,7 @@ stays t figure e sum p = unmoved t sum figure p e
 
 -- The seven counters after one more entry; underruns are counted apart.
 pub record Moves (s : Setup) (t now : IsoStats) (e : Entry) (log : List Entry) : Type 0 where
-  pub submitted : Adds (t .«urbs_submitted») (now .«urbs_submitted») (accepted e log)
+  pub submitted : Adds (t .«urbs_submitted») (now .«urbs_submitted») (acceptances e log)
   pub completed-one : Adds (t .«urbs_completed») (now .«urbs_completed») (completed s e log)
   pub bytes-submitted : Adds (t .«bytes_submitted») (now .«bytes_submitted») (bytesAccepted s e log)
   pub bytes-transferred : Adds (t .«bytes_transferred») (now .«bytes_transferred») (transferred s e log)
@@ -100,7 +100,7 @@ module _ {s : Setup} {e : Entry} {log : List Entry} {nam sub : Option ℕ} {back
   unfolding of completed transferred shortBytes packetErrors urbErrors
   still w t =
       record {
-        submitted = stays _ _ (accepted-is w);
+        submitted = stays _ _ (acceptances-is w);
         completed-one = stays _ _ (completed-is w _);
         bytes-submitted = stays _ _ (bytes-is w);
         bytes-transferred = stays _ _ (completed-is w _);
@@ -114,7 +114,7 @@ module _ {s : Setup} {e : Entry} {log : List Entry} {nam sub : Option ℕ} {back
   unfolding of completed transferred shortBytes packetErrors urbErrors oneSubmitted
   one-submitted i w t =
       record {
-        submitted = adds _ _ _ (accepted-is w);
+        submitted = adds _ _ _ (acceptances-is w);
         completed-one = stays _ _ (completed-is w _);
         bytes-submitted = adds _ _ _ (bytes-is w);
         bytes-transferred = stays _ _ (completed-is w _);
@@ -128,7 +128,7 @@ module _ {s : Setup} {e : Entry} {log : List Entry} {nam sub : Option ℕ} {back
   unfolding of completed transferred shortBytes packetErrors urbErrors oneCompleted
   one-completed i w d t =
       record {
-        submitted = stays _ _ (accepted-is w);
+        submitted = stays _ _ (acceptances-is w);
         completed-one = adds _ _ _ (figure (λ c. 1));
         bytes-submitted = stays _ _ (bytes-is w);
         bytes-transferred = adds _ _ _ (figure (λ c. c .«actual_bytes»));
@@ -145,7 +145,7 @@ module _ {s : Setup} {e : Entry} {log : List Entry} {nam sub : Option ℕ} {back
   unfolding of completed transferred shortBytes packetErrors urbErrors
   none-completed i w d t =
       record {
-        submitted = stays _ _ (accepted-is w);
+        submitted = stays _ _ (acceptances-is w);
         completed-one = stays _ _ (figure (λ c. 1));
         bytes-submitted = stays _ _ (bytes-is w);
         bytes-transferred = stays _ _ (figure (λ c. c .«actual_bytes»));

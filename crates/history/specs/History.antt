@@ -1,73 +1,16 @@
 -- A list of calls, on the ledger and on the record. Histories are held newest first.
-use Prim.Native.Nat.{ℕ}
 use mathlib.Core.List.{List, [], _∷_}
 use Rattle.layout.specs.declared.Setup.{Setup}
-use Rattle.stream.specs.declared.Reaping.{Reaping}
 use Rattle.stream.specs.declared.Stream.{Stream}
-use Rattle.stream.specs.declared.Submission.{Submission}
-use Rattle.stream.specs.Opened.{openedStream}
 use Rattle.ledger.specs.Ledger.{Ledger, openedLedger}
-use Rattle.ledger.specs.Step.{Next}
-use Rattle.ledger.specs.Record.{Outcome, call}
-use Rattle.ledger.specs.Turn as Turn
-use Rattle.ledger.specs.Commit as Commit
-use Rattle.ledger.specs.Submitted as Submitted
-use Rattle.ledger.specs.Reaped as Reaped
-use Rattle.ledger.specs.Control as Control
+use Rattle.ledger.specs.Calls.{Call, stepOf, made}
 
--- One of the ten calls, with its arguments, the kernel's reply and the block or list that is lent to it.
-pub data Call : Type 0 where
-  turn : (block : List ℕ) → Call
-  commit : (bytes : ℕ) (block : List ℕ) → Call
-  commitFull : (block : List ℕ) → Call
-  commitPackets : (lengths : List ℕ) (block : List ℕ) → Call
-  submitted : (reply : Submission) (block : List ℕ) → Call
-  reaped : (reply : Reaping) (block : List ℕ) → Call
-  giveBack : Call
-  start : Call
-  stop : (list : List ℕ) → Call
-  finish : Call
-
--- The call's rule.
-unfoldable pub rule : Call → Setup → Ledger → List ℕ → Next
-rule (turn block) = Turn.turn
-rule (commit bytes block) = Commit.commit bytes
-rule (commitFull block) = Commit.commitFull
-rule (commitPackets lengths block) = Commit.commitPackets lengths
-rule (submitted reply block) = Submitted.submitted reply
-rule (reaped reply block) = Reaped.reaped reply
-rule giveBack = Control.giveBack
-rule start = Control.start
-rule (stop list) = Control.stop
-rule finish = Control.finish
-
--- What is lent to the call.
-unfoldable pub lentTo : Call → List ℕ
-lentTo (turn block) = block
-lentTo (commit bytes block) = block
-lentTo (commitFull block) = block
-lentTo (commitPackets lengths block) = block
-lentTo (submitted reply block) = block
-lentTo (reaped reply block) = block
-lentTo giveBack = []
-lentTo start = []
-lentTo (stop list) = list
-lentTo finish = []
-
--- The call on a ledger.
-unfoldable pub stepOf : Setup → Call → Ledger → Next
-stepOf s c l = rule c s l (lentTo c)
-
--- The call on a record.
-unfoldable pub made : Call → Stream → Outcome
-made c s = call (rule c) s (lentTo c)
-
--- The ledger after a history.
+-- The ledger after a history: it starts as opening says.
 unfoldable pub ledgerAfter : Setup → List Call → Ledger
 ledgerAfter s [] = openedLedger (s .slots)
 ledgerAfter s (c ∷ before) = stepOf s c (ledgerAfter s before) .ledger
 
--- The record after a history.
-unfoldable pub recordAfter : Setup → List Call → Stream
-recordAfter s [] = openedStream s
-recordAfter s (c ∷ before) = made c (recordAfter s before) .stream
+-- The record after a history that starts with this one.
+unfoldable pub recordAfter : Stream → List Call → Stream
+recordAfter first [] = first
+recordAfter first (c ∷ before) = made c (recordAfter first before) .stream

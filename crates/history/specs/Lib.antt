@@ -1,4 +1,5 @@
 pub mod History
+pub mod Log
 pub mod Words
 pub mod Sums
 pub mod Demand3

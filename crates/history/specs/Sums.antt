@@ -6,10 +6,12 @@ use mathlib.Core.Option.{Option, none, some}
 use Rattle.layout.specs.declared.Setup.{Setup}
 use Rattle.ring.specs.Slots.{one}
 use Rattle.stream.specs.declared.Completion.{Completion}
-use Rattle.ledger.specs.Block.{bufferBytes, completionOf}
+use Rattle.ledger.specs.Notice.{bufferBytes, completionOf}
 use Rattle.ledger.specs.Reaped.{urbError}
 use Rattle.ledger.specs.Turn.{drained}
-use Rattle.history.specs.History.{Call, turn, commit, commitFull, commitPackets, submitted, reaped, giveBack, start, stop, finish, lentTo, stepOf, ledgerAfter}
+use Rattle.ledger.specs.Calls.{Call, lentTo, stepOf}
+use Rattle.ledger.specs.Calls.{turn, commit, commitFull, commitPackets, submitted, reaped, giveBack, start, stop, finish}
+use Rattle.history.specs.History.{ledgerAfter}
 use Rattle.history.specs.Words.{Entry, sixOrNine, acceptance, notice, afterDiscard}
 
 -- A figure of each call, added up over a log.
@@ -23,8 +25,8 @@ of none figure = 0
 of (some i) figure = figure i
 
 -- The acceptances taken.
-unfoldable pub accepted : Entry → List Entry → ℕ
-accepted e before = of (acceptance e before) (λ i. 1)
+unfoldable pub acceptances : Entry → List Entry → ℕ
+acceptances e before = of (acceptance e before) (λ i. 1)
 
 -- max(0, buffer length) of the slot in the block at each.
 unfoldable pub bytesAccepted : Setup → Entry → List Entry → ℕ

@@ -11,7 +11,8 @@ use Rattle.layout.specs.Opening.{maskedOf, layoutFor}
 use Rattle.stream.specs.declared.Answer.{Answer}
 use Rattle.stream.specs.declared.Reaping.{Reaping}
 use Rattle.stream.specs.declared.Submission.{Submission}
-use Rattle.history.specs.History.{Call, turn, commit, commitFull, commitPackets, submitted, reaped, giveBack, start, stop, finish, stepOf, ledgerAfter}
+use Rattle.ledger.specs.Calls.{Call, turn, commit, commitFull, commitPackets, submitted, reaped, giveBack, start, stop, finish, stepOf}
+use Rattle.history.specs.History.{ledgerAfter}
 
 -- A call and its answer.
 pub record Entry : Type 0 where

@@ -2,5 +2,6 @@ pub mod Refusals
 pub mod Strides
 pub mod Addresses
 pub mod Limits
-pub mod Acceptance
+pub mod Admission
 pub mod Slots
+pub mod Numbers

@@ -14,7 +14,7 @@ use Rattle.layout.specs.Opening.{layoutFor, totalOf}
 use Rattle.layout.specs.Places.{placesOf, Placed}
 use Rattle.layout.proofs.Strides.{stride, headers-even, base-up, stride-up}
 use Rattle.layout.proofs.Limits.{limited-small}
-use Rattle.layout.proofs.Acceptance.{Accepted, addressed}
+use Rattle.layout.proofs.Admission.{Admissible, addressed}
 
 -- A slot's stride ends where the next slot's begins, or before.
 apart : (i j stride : ℕ) → i < j → i * stride + stride ≤ j * stride
@@ -26,7 +26,7 @@ apart i j stride h =
 abbrev pub headerBytes : Setup → ℕ
 headerBytes s = 56 + 12 * s .«packets_per_urb»
 
-pub placed : (s : Setup) (i : ℕ) → Accepted s → s .base ≤ largest → i < s .slots → Placed s i (placesOf s i)
+pub placed : (s : Setup) (i : ℕ) → Admissible s → s .base ≤ largest → i < s .slots → Placed s i (placesOf s i)
 unfolding placesOf layoutFor layoutOf totalOf total
 placed s i a hb h =
     let n = s .slots in

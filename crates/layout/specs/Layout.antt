@@ -35,7 +35,11 @@ dataStride p b = raised 64 (p * b)
 unfoldable pub total : ℕ → ℕ → ℕ → ℕ
 total n p b = dataBase n p + n * dataStride p b
 
--- The layout; alignment 64, capacity p × b.
+-- Capacity: p × b.
+abbrev pub capacity : ℕ → ℕ → ℕ
+capacity p b = p * b
+
+-- The layout; alignment 64.
 unfoldable pub layoutOf : ℕ → ℕ → ℕ → RingLayout
 layoutOf n p b =
     record {
@@ -47,7 +51,7 @@ layoutOf n p b =
       «packets_per_urb» = p;
       «total_bytes» = total n p b;
       align = 64;
-      «slot_capacity» = p * b;
+      «slot_capacity» = capacity p b;
     }
 
 -- Refusals 1, 2 and 3: n below 2; p or b zero; p above 128.

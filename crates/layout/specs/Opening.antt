@@ -1,17 +1,14 @@
--- The paper's section Opening: which values open a ring, and what refuses the others.
+-- The paper's section Opening, as far as the values alone decide: their layout, the limits and the base. What the block decides stands in
+-- crate opening.
 use Prim.Native.Nat.{ℕ, _+_, _%_, _^_, _≤_}
 use mathlib.Core.Bool.{Bool, true, false, _||_, not}
 use mathlib.Core.List.{List, [], _∷_, _++_}
-use mathlib.Core.Option.{Option, none, some}
 use lib.Dec.{ltb, eqb}
-use Rattle.error.specs.declared.Error.{Error}
-use Rattle.error.specs.declared.Error.the-variants.{TooLarge, BlockLength, BaseAddress}
+use Rattle.error.specs.declared.Error.the-variants.{TooLarge, BaseAddress}
 use Rattle.layout.specs.declared.RingLayout.{RingLayout}
 use Rattle.layout.specs.declared.Setup.{Setup}
-use Rattle.layout.specs.declared.Opens.{Opens}
-use Rattle.layout.specs.declared.Opens.the-variants.{Yes, Refused}
 use Rattle.layout.specs.Tests.{Test, first, passed}
-use Rattle.layout.specs.Layout.{sizes, Sized, total, layoutOf}
+use Rattle.layout.specs.Layout.{sizes, Sized, total, capacity, layoutOf}
 
 -- The part of an address that compares: the low 56 bits where addresses carry a tag, else all of it.
 unfoldable pub maskedOf : Bool → ℕ → ℕ
@@ -23,22 +20,21 @@ unfoldable pub limit : Bool → ℕ
 limit true = 2 ^ 56
 limit false = 2 ^ 64
 
--- The layout of these values, and its total.
+-- The layout of these values, its total and its slots' capacity.
 unfoldable pub layoutFor : Setup → RingLayout
 layoutFor s = layoutOf (s .slots) (s .«packets_per_urb») (s .«packet_bytes»)
 
 unfoldable pub totalOf : Setup → ℕ
 totalOf s = total (s .slots) (s .«packets_per_urb») (s .«packet_bytes»)
 
+abbrev pub capacityOf : Setup → ℕ
+capacityOf s = capacity (s .«packets_per_urb») (s .«packet_bytes»)
+
 -- Refusals 1, 2 and 3, then 5: n above 256 or b above 49,152.
 unfoldable pub limits : Setup → List Test
 limits s =
     sizes (s .slots) (s .«packets_per_urb») (s .«packet_bytes»)
     ++ (ltb 256 (s .slots) || ltb 49152 (s .«packet_bytes»), TooLarge) ∷ []
-
--- Refusal 6: block length not total.
-unfoldable pub blockLength : Setup → ℕ → List Test
-blockLength s len = (not (eqb len (totalOf s)), BlockLength) ∷ []
 
 -- Base no multiple of 64, or masked base + total above the limit.
 unfoldable pub badBase : Bool → ℕ → ℕ → Bool
@@ -48,22 +44,9 @@ badBase tagged base bytes = not (eqb (base % 64) 0) || ltb (limit tagged) (maske
 unfoldable pub baseAddress : Setup → List Test
 baseAddress s = (badBase (s .tagged) (s .base) (totalOf s), BaseAddress) ∷ []
 
--- Opening's refusal for a block of that length: the first of 1, 2, 3, 5, 6, 7.
-unfoldable pub refusalOf : Setup → ℕ → Option Error
-refusalOf s len = first (limits s ++ (blockLength s len ++ baseAddress s))
-
--- The layout of the values, or the refusal.
-unfoldable pub opened : Option Error → RingLayout → Opens
-opened none l = Yes l
-opened (some e) l = Refused e
-
--- What opening answers, all but the block's bytes.
-unfoldable pub opens : Setup → ℕ → Opens
-opens s len = opened (refusalOf s len) (layoutFor s)
-
--- These values would be accepted with a block of the right length.
-unfoldable pub accepted : Setup → Bool
-accepted s = passed (first (limits s ++ baseAddress s))
+-- Opening would take these values with a block of the right length.
+unfoldable pub admissible : Setup → Bool
+admissible s = passed (first (limits s ++ baseAddress s))
 
 -- What refusals 1, 2, 3 and 5 leave.
 pub record Limited (s : Setup) : Type 0 where

@@ -1,10 +1,12 @@
-// What opening's values determine: the ring's layout, opening's refusals, and the places of a slot in the block.
+// What opening's values determine: the ring's layout, which of them opening refuses, and the places of a slot in
+// the block.
 ghost use mathlib.Core.Path.{_≡_};
 ghost use mathlib.Core.Bool.{true};
 ghost use Prim.Native.Nat.{_≤_, _<_, _+_, _-_, _*_};
-ghost use Rattle.layout.specs.Layout.{raised, largest, slotStride, dataStride, overflowing, layoutOf, laidOut, total, sizes, Sized};
+ghost use Rattle.layout.specs.Layout.{raised, largest, slotStride, dataStride, overflowing};
+ghost use Rattle.layout.specs.Layout.{layoutOf, laidOut, total, sizes, Sized};
 ghost use Rattle.layout.specs.Tests.{tested, first};
-ghost use Rattle.layout.specs.Opening.{maskedOf, limit, badBase, limits, Limited, layoutFor, opens, accepted};
+ghost use Rattle.layout.specs.Opening.{maskedOf, limit, badBase, limits, Limited, layoutFor, admissible};
 ghost use Rattle.layout.specs.Places.{Placed};
 use error::Error;
 use sys::IsoPacketDesc;
@@ -87,8 +89,8 @@ fn test_sizes(slots: usize, packets_per_urb: usize, packet_bytes: usize) -> Test
     Tested::Passed
 }
 
-// Internal: whether a product, sum or raising is above usize::MAX. Since the data stride is a multiple of 64, the total is
-// slots * (header stride + data stride) raised to 64, and it is the largest of them.
+// Internal: whether a product, sum or raising is above usize::MAX. Since the data stride is a multiple of 64, the
+// total is slots * (header stride + data stride) raised to 64, and it is the largest of them.
 fn overflows(slots: usize, packets_per_urb: usize, packet_bytes: usize) -> bool
     requires { ⌜ Sized slots «packets_per_urb» «packet_bytes» ⌝ }
     ensures { λ r. ⌜ r ≡ overflowing slots «packets_per_urb» «packet_bytes» ⌝ }
@@ -164,11 +166,6 @@ pub struct Setup {
     pub tagged: bool,
 }
 
-pub enum Opens {
-    Yes(RingLayout),
-    Refused(Error),
-}
-
 // Where a slot's parts lie in the block, the bytes of its payload and its packets.
 pub struct Places {
     pub header: usize,
@@ -178,7 +175,9 @@ pub struct Places {
     pub packets: usize,
 }
 
-// The part of an address that compares: the low 56 bits where addresses carry a tag, else all of it.
+// The part of an address that compares: the low 56 bits where addresses carry a tag, else all of it. On arm64 the top
+// byte of a pointer may hold the allocator's tag, and the kernel may hand an address back with another tag or none:
+// such addresses name the same place.
 pub fn masked(tagged: bool, address: usize) -> usize
     ensures { λ r. ⌜ r ≡ maskedOf tagged address ⌝ }
 {
@@ -205,7 +204,7 @@ fn bad_base(tagged: bool, base: usize, bytes: usize) -> bool
 
 impl Setup {
     // Refusals 1, 2, 3 and 5.
-    fn test_limits(self) -> Tested
+    pub fn test_limits(self) -> Tested
         ensures { λ r. ⌜ r ≡ tested (first (limits self)) ⌝ }
     {
         match test_sizes(self.slots, self.packets_per_urb, self.packet_bytes) {
@@ -227,28 +226,9 @@ impl Setup {
         RingLayout::of(self.slots, self.packets_per_urb, self.packet_bytes)
     }
 
-    // What opening answers for a block of that length: its layout, or the first of refusals 1, 2, 3, 5, 6, 7.
-    pub fn opens(self, block_len: usize) -> Opens
-        ensures { λ r. ⌜ r ≡ opens self «block_len» ⌝ }
-    {
-        match self.test_limits() {
-            Tested::Refused(e) => Opens::Refused(e),
-            Tested::Passed => {
-                let layout = self.layout_of();
-                if block_len != layout.total_bytes {
-                    return Opens::Refused(Error::BlockLength);
-                }
-                if bad_base(self.tagged, self.base, layout.total_bytes) {
-                    return Opens::Refused(Error::BaseAddress);
-                }
-                Opens::Yes(layout)
-            }
-        }
-    }
-
     // Whether opening would take these values with a block of the right length.
-    pub fn accepted(self) -> bool
-        ensures { λ r. ⌜ r ≡ accepted self ⌝ }
+    pub fn admissible(self) -> bool
+        ensures { λ r. ⌜ r ≡ admissible self ⌝ }
     {
         match self.test_limits() {
             Tested::Refused(_) => false,
@@ -261,7 +241,7 @@ impl Setup {
 
     // Internal: the places of slot i.
     pub fn places(self, i: usize) -> Places
-        requires { ⌜ (accepted self ≡ true) × (i < self .slots) ⌝ }
+        requires { ⌜ (admissible self ≡ true) × (i < self .slots) ⌝ }
         ensures { λ r. ⌜ Placed self i r ⌝ }
     {
         let layout = self.layout_of();

@@ -1,107 +1,116 @@
--- What a call's return has to show, by the tests that led there: refused by the gate, the record as it was, or a record that stores the
--- rule's ledger. Assumes nothing.
-use mathlib.Core.Path.{_≡_, refl, sym, ap}
-use mathlib.Core.Bool.{Bool, true, false, cond}
-use mathlib.Core.List.{List, _++_}
-use Prim.Native.Nat.{ℕ}
-use lib.Dec.{eqb}
-use lib.ListN.{length, drop}
-use lib.Seq.{drop-at}
-use borrow.Author.Tests.{eqb-true, eq-eqb}
+-- What a call's return has to show, by what the first tests leave: a record that breaks the list of 8, the record as it was, or a record that stores
+-- the rule's ledger. Assumes nothing.
+use mathlib.Core.Path.{_≡_, refl, sym, ap, _∙_}
+use mathlib.Core.Bool.{true, false}
+use mathlib.Core.List.{List, [], _++_}
+use Prim.Native.Nat.{ℕ, _≤_}
 use native.Mathlib.Omega.{arith}
+use lib.ListN.{length, drop}
 use Rattle.error.specs.declared.Error.{Error}
-use Rattle.layout.specs.declared.Setup.{Setup}
-use Rattle.layout.specs.Opening.{totalOf}
 use Rattle.ring.specs.declared.Ring.{Ring}
-use Rattle.ring.specs.Parts.{queueOf, withQueue}
-use Rattle.ring.specs.declared.Cell.{Cell}
+use Rattle.ring.specs.Parts.{queueOf, withQueue, withOut, stateOf}
 use Rattle.ring.proofs.Queue.{queue-kept}
-use Rattle.ring.proofs.Wide.{Wide}
+use Rattle.ring.proofs.States.{Parts, kept-wide, states-wide, states-parts, state-kept, state-above, state-below}
+use Rattle.ring.proofs.Wide.{Wide, StatesWide}
 use Rattle.stream.specs.declared.Answer.{Answer}
-use Rattle.stream.specs.declared.Gate.{Gate}
+use Rattle.stream.specs.declared.Reply.{Reply}
 use Rattle.stream.specs.declared.Stream.{Stream}
+use Rattle.stream.specs.Numbers.{numbersOf}
 use Rattle.stream.specs.Parts.{withState}
-use Rattle.stream.specs.Sound.{sound, gateOf}
-use Rattle.stream.proofs.Soundness.{ring-sound}
-use Rattle.ledger.specs.Ledger.{Ledger}
-use Rattle.ledger.specs.Step.{Next, refused, onBlock}
-use Rattle.ledger.specs.Record.{view, statesFrom, ringFor, stored, Outcome, call}
-use Rattle.ledger.proofs.View.{stored-view, ring-path}
-use Rattle.ledger.proofs.Table.{table-long}
+use Rattle.stream.specs.Sound.{sound}
+use Rattle.stream.proofs.Numbers.{answers-apart}
+use Rattle.ledger.specs.Ledger.{Ledger, stateIn, outs}
+use Rattle.ledger.specs.Step.{Next, refused, putBack}
+use Rattle.ledger.specs.Record.{view, ringFor, stored, call}
+use Rattle.ledger.specs.Calls.{Call, lentTo, stepOf, made}
+use Rattle.ledger.specs.Told.{Told}
+use Rattle.ledger.specs.Gives.{Gives}
+use Rattle.ledger.proofs.View.{facts, ring-shows, stored-view}
 
--- A return shows answer, record and lent slice of the outcome.
-abbrev pub Told : Outcome → Stream → Answer → List ℕ → Type 0
-Told o s a lent = (a ≡ o .answer) × (s ≡ o .stream) × (lent ≡ o .lent)
+module _ (c : Call) (s : Stream) where
+  -- what is promised of the answer's numbers is promised of the answer
+  pub told-answer : {a : Answer} {after : Stream} {left : List ℕ} → Told c s a after left → a ≡ made c s .answer
+  told-answer t = answers-apart _ _ (t .answer)
 
-pub told : (o : Outcome) (s : Stream) (a : Answer) (lent : List ℕ) → o ≡ record { stream = s; answer = a; lent = lent } → Told o s a lent
-told o s a lent e = (ap (λ (x : Outcome). x .answer) (sym e), ap (λ (x : Outcome). x .stream) (sym e), ap (λ (x : Outcome). x .lent) (sym e))
-
-module _ (step : Setup → Ledger → List ℕ → Next) (s : Stream) (lent : List ℕ) where
   -- the record breaks refusal 8's list
-  pub call-unsound : sound s ≡ false → Told (call step s lent) s (Answer.Refused Error.Unsound) lent
-  unfolding call
-  call-unsound e = told _ s _ lent (rw e)
+  pub told-unsound : sound s ≡ false → Told c s (Answer.Refused Error.Unsound) s (lentTo c)
+  unfolding made call
+  told-unsound e = record { answer = rw e; stream = rw e; lent = rw e }
 
   -- a sound record: the rule decides
-  pub call-moved : sound s ≡ true → (next : Next) → step (s .setup) (view s) lent ≡ next → (to : Stream) → to ≡ stored s (next .ledger) → Told (call step s lent) to (next .answer) (next .lent)
-  unfolding call
-  call-moved ok next e to f = told _ to (next .answer) (next .lent) (rw (ok, e, f))
+  pub told-gives : sound s ≡ true → (next : Next) → stepOf (s .setup) c (view s) ≡ next → (r : Reply) (left : List ℕ) → Gives s next r left → Told c s (r .answer) (r .stream) left
+  unfolding made call stepOf
+  told-gives ok next e r left g =
+      record { answer = ap numbersOf (g .answer) ∙ rw (ok, e); stream = g .stream ∙ rw (ok, e); lent = g .block ∙ rw (ok, e) }
 
-  -- the rule leaves the ledger as it was
-  pub call-kept : sound s ≡ true → Wide (s .ring) → (a : Answer) (x : List ℕ) → step (s .setup) (view s) lent ≡ record { ledger = view s; answer = a; lent = x } → Told (call step s lent) s a x
-  call-kept ok wide a x e = call-moved ok (record { ledger = view s; answer = a; lent = x }) e s (sym (stored-view s ok wide))
+-- nothing differs
+pub gives-kept : (s : Stream) → sound s ≡ true → Wide (s .ring) → (a : Answer) (lent : List ℕ) → Gives s (record { ledger = view s; answer = a; lent = lent }) (record { stream = s; answer = a }) lent
+gives-kept s ok wide a lent = record { answer = refl; stream = sym (stored-view s ok wide); block = refl }
 
-  -- refused with nothing differing
-  pub call-refused : sound s ≡ true → Wide (s .ring) → (e : Error) → step (s .setup) (view s) lent ≡ refused e (view s) lent → Told (call step s lent) s (Answer.Refused e) lent
-  unfolding refused
-  call-refused ok wide e p = call-kept ok wide (Answer.Refused e) lent p
+-- refused with nothing differing
+pub gives-refused : (s : Stream) → sound s ≡ true → Wide (s .ring) → (e : Error) (lent : List ℕ) (r : Reply) → r ≡ record { stream = s; answer = Answer.Refused e } → Gives s (refused e (view s) lent) r lent
+unfolding refused
+gives-refused s ok wide e lent r is = rw is (gives-kept s ok wide (Answer.Refused e) lent)
+
+-- a rule that leaves what is lent as it was, made without looking at it
+pub gives-lent : (s : Stream) (next : List ℕ → Next) → ((x : List ℕ) → (next [] .answer ≡ next x .answer) × (next [] .ledger ≡ next x .ledger) × (x ≡ next x .lent)) → (r : Reply) → Gives s (next []) r [] → (lent : List ℕ) → Gives s (next lent) r lent
+gives-lent s next same r g lent =
+    record { answer = g .answer ∙ same lent .0; stream = g .stream ∙ ap (stored s) (same lent .1); block = same lent .2 }
+
+-- the hand's slot returned: what is lent is as it was
+pub back-lent : (s : Stream) (i : ℕ) (a : Answer) (l : Ledger) (r : Reply) (lent : List ℕ) → Gives s (putBack i a l []) r [] → Gives s (putBack i a l lent) r lent
+unfolding putBack
+back-lent s i a l r lent g = gives-lent s (putBack i a l) (λ x. (refl, refl, refl)) r g lent
 
 -- opening's values are as they were
 pub stored-setup : (s : Stream) (l : Ledger) → stored s l .setup ≡ s .setup
 unfolding stored withState
 stored-setup s l = refl
 
--- the gate of the calls that are lent a block
-pub gate-opened : (s : Stream) (len : ℕ) → gateOf s len ≡ Gate.Open → (sound s ≡ true) × (len ≡ totalOf (s .setup))
-unfolding gateOf
-gate-opened s len p = go (sound s) (eqb len (totalOf (s .setup))) refl refl p
-  where
-    go : (a b : Bool) → sound s ≡ a → eqb len (totalOf (s .setup)) ≡ b → cond a (cond b Gate.Open (Gate.Refused Error.BlockLength)) (Gate.Refused Error.Unsound) ≡ Gate.Open → (sound s ≡ true) × (len ≡ totalOf (s .setup))
-    go true true x y q = (x, eqb-true len (totalOf (s .setup)) y)
-    go true false x y q = let z : _≡_ {A = ℕ} 0 1 = cc in absurd (omega arith)
-    go false b x y q = let z : _≡_ {A = ℕ} 0 1 = cc in absurd (omega arith)
-
--- a call whose rule starts with the block's length, refused by the gate
-pub gate-refused : (f : Setup → Ledger → List ℕ → Next) (s : Stream) (block : List ℕ) → Wide (s .ring) → (e : Error) → gateOf s (length block) ≡ Gate.Refused e → Told (call (λ st l b. onBlock st l b (f st l b)) s block) s (Answer.Refused e) block
-unfolding gateOf onBlock
-gate-refused f s block wide e p = go (sound s) (eqb (length block) (totalOf (s .setup))) refl refl p
-  where
-    go : (a b : Bool) → sound s ≡ a → eqb (length block) (totalOf (s .setup)) ≡ b → cond a (cond b Gate.Open (Gate.Refused Error.BlockLength)) (Gate.Refused Error.Unsound) ≡ Gate.Refused e → Told (call (λ st l b'. onBlock st l b' (f st l b')) s block) s (Answer.Refused e) block
-    go true true x y q = let z : _≡_ {A = ℕ} 0 1 = cc in absurd (omega arith)
-    go true false x y q =
-        let z : Error.BlockLength ≡ e = cc in
-        rw (sym z) (call-refused _ s block x wide Error.BlockLength (rw y))
-    go false b x y q = let z : Error.Unsound ≡ e = cc in rw (sym z) (call-unsound _ s block x)
-
--- past the gate the block has its length, and the rule goes on
-pub on-block : (s : Setup) (l : Ledger) (block : List ℕ) (next : Next) → length block ≡ totalOf s → onBlock s l block next ≡ next
-unfolding onBlock
-on-block s l block next e = rw (eq-eqb (length block) (totalOf s) e)
-
 -- storing twice is storing the second ledger, where the first has the record's own queue
-pub stored-again : (s : Stream) → sound s ≡ true → Wide (s .ring) → (l l' : Ledger) → l .queue ≡ queueOf (s .ring) → stored (stored s l) l' ≡ stored s l'
-unfolding stored withState ringFor queueOf withQueue
-stored-again s ok wide l l' e = ap (λ (r : Ring). withState s r (l' .hand) (record { started = l' .started; armed = l' .armed }) (l' .totals)) again
-  where
-    n : ℕ
-    n = s .setup .slots
+module _ (s : Stream) (ok : sound s ≡ true) (wide : Wide (s .ring)) (l l' : Ledger) (e : l .queue ≡ queueOf (s .ring)) where
+  n : ℕ
+  n = s .setup .slots
 
-    places : l .queue ++ drop (length (l .queue)) (s .ring .free) ≡ s .ring .free
-    places = rw e (ap (λ (r : Ring). r .free) (queue-kept (s .ring) (omega (arith, ring-sound s ok .short, wide .places))))
+  -- the ring after the first, and what the second is put into
+  once : Ring
+  once = ringFor n (s .ring) l
 
-    again : ringFor n (ringFor n (s .ring) l) l' ≡ ringFor n (s .ring) l'
-    again =
-        ring-path _ _
-        (ap (λ (c : List Cell). statesFrom l' 0 n ++ c) (drop-at (statesFrom l 0 n) (drop n (s .ring .states)) n (table-long l 0 n)))
-        (ap (λ (q : List ℕ). l' .queue ++ drop (length (l' .queue)) q) places)
-        refl refl
+  base : Ring
+  base = withOut (withQueue once (l' .queue)) (outs (l' .marks))
+
+  once-wide : StatesWide once
+  unfolding once ringFor
+  once-wide = states-wide (stateIn l) _ n (kept-wide (s .ring) (l .queue) (outs (l .marks)) (wide .states))
+
+  base-wide : StatesWide base
+  unfolding base
+  base-wide = kept-wide once (l' .queue) (outs (l' .marks)) once-wide
+
+  -- the queue's places are as they were
+  places : once .free ≡ s .ring .free
+  unfolding once ringFor withOut withQueue
+  places =
+      states-parts (stateIn l) _ n .free ∙
+      rw e (ap (λ (r : Ring). r .free) (queue-kept (s .ring) (omega (arith, facts s ok wide .short, wide .places))))
+
+  again : ringFor n once l' ≡ ringFor n (s .ring) l'
+  unfolding ringFor once base withQueue withOut n
+  again =
+      let parts = states-parts (stateIn l') base n in
+      sym
+      (ring-shows s ok wide l' (ringFor n once l') (states-wide (stateIn l') base n base-wide)
+      (λ j h. state-below (stateIn l') base base-wide n (facts s ok wide .few) j h)
+      (λ j h. state-above (stateIn l') base n j h ∙ above j h)
+      (record { free = parts .free ∙ ap (λ (q : List ℕ). l' .queue ++ drop (length (l' .queue)) q) places; len = parts .len; out = parts .out }))
+    where
+      above : (j : ℕ) → n ≤ j → stateOf base j ≡ stateOf (s .ring) j
+      above j h =
+          state-kept once (l' .queue) (outs (l' .marks)) j ∙
+          state-above (stateIn l) _ n j h ∙
+          state-kept (s .ring) (l .queue) (outs (l .marks)) j
+
+  pub stored-again : stored (stored s l) l' ≡ stored s l'
+  unfolding stored withState once n
+  stored-again =
+      ap (λ (r : Ring). withState s r (l' .hand) (record { started = l' .started; armed = l' .armed }) (l' .totals)) again

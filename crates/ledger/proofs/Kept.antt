@@ -12,15 +12,15 @@ use Rattle.error.specs.declared.Error.{Error}
 use Rattle.layout.specs.declared.Setup.{Setup}
 use Rattle.layout.specs.Layout.{anyAbove}
 use Rattle.layout.specs.declared.Underrun.{Underrun}
-use Rattle.layout.specs.Opening.{totalOf}
+use Rattle.layout.specs.Opening.{totalOf, capacityOf}
 use Rattle.ring.specs.declared.Hand.{Hand}
 use Rattle.ring.specs.Slots.{isFree, one, holds, handWithin}
 use Rattle.ring.proofs.Truth.{both, first, second}
 use Rattle.stream.specs.declared.Answer.{Answer}
 use Rattle.stream.specs.declared.IsoStats.{IsoStats}
 use Rattle.ledger.specs.Ledger.{Ledger, out, withHand, withFlags, withTotals, marked, markOf, returned, stateIn}
-use Rattle.ledger.specs.Block.{capacityOf, shares}
-use Rattle.ledger.specs.Step.{Next, refused, onBlock, onIdle, onHeld, putBack}
+use Rattle.ledger.specs.Slot.{lengthsOf}
+use Rattle.ledger.specs.Step.{Next, Rule, refused, onBlock, byIdle, whenIdle, byHeld, whenHeld, putBack}
 use Rattle.ledger.specs.Turn.{takeFront, silenceFront, drained, oneUnderrun, underrun, onUnderrun, turnIdle, turn}
 use Rattle.ledger.specs.Commit.{send, commitHeld, commit, packetsHeld, commitPackets}
 use Rattle.ledger.specs.Submitted.{silent}
@@ -48,23 +48,30 @@ pub refused-valid : (n : ℕ) (e : Error) (l : Ledger) (lent : List ℕ) → Val
 unfolding refused
 refused-valid n e l lent v = v
 
-pub block-valid : (n : ℕ) (s : Setup) (l : Ledger) (block : List ℕ) (next : Next) → Valid n l → Valid n (next .ledger) → Valid n (onBlock s l block next .ledger)
+pub block-valid : (n : ℕ) (rule : Rule) (s : Setup) (l : Ledger) (block : List ℕ) → Valid n l → Valid n (rule s l block .ledger) → Valid n (onBlock rule s l block .ledger)
 unfolding onBlock
-block-valid n s l block next v w = either n (eqb (length block) (totalOf s)) next _ w (refused-valid n Error.BlockLength l block v)
+block-valid n rule s l block v w =
+    either n (eqb (length block) (totalOf s)) (rule s l block) _ w (refused-valid n Error.BlockLength l block v)
 
-pub idle-valid : (n : ℕ) (h : Hand) (next wrong : Next) → (h ≡ Hand.Idle → Valid n (next .ledger)) → Valid n (wrong .ledger) → Valid n (onIdle h next wrong .ledger)
-unfolding onIdle
-idle-valid n Hand.Idle next wrong v w = v refl
-idle-valid n (Hand.Held i) next wrong v w = w
-idle-valid n (Hand.Sending i) next wrong v w = w
-idle-valid n (Hand.Silent i left) next wrong v w = w
+pub idle-valid : (n : ℕ) (rule : Rule) (s : Setup) (l : Ledger) (lent : List ℕ) → Valid n l → (l .hand ≡ Hand.Idle → Valid n (rule s l lent .ledger)) → Valid n (whenIdle rule s l lent .ledger)
+unfolding whenIdle byIdle refused
+idle-valid n rule s l lent v w = by (l .hand) refl
+  where
+    by : (h : Hand) → l .hand ≡ h → Valid n (byIdle h (rule s l lent) (refused Error.WrongHand l lent) .ledger)
+    by Hand.Idle e = w e
+    by (Hand.Held i) e = v
+    by (Hand.Sending i) e = v
+    by (Hand.Silent i left) e = v
 
-pub held-valid : (n : ℕ) (h : Hand) (next : ℕ → Next) (wrong : Next) → ((i : ℕ) → h ≡ Hand.Held i → Valid n (next i .ledger)) → Valid n (wrong .ledger) → Valid n (onHeld h next wrong .ledger)
-unfolding onHeld
-held-valid n Hand.Idle next wrong v w = w
-held-valid n (Hand.Held i) next wrong v w = v i refl
-held-valid n (Hand.Sending i) next wrong v w = w
-held-valid n (Hand.Silent i left) next wrong v w = w
+pub held-valid : (n : ℕ) (rule : ℕ → Rule) (s : Setup) (l : Ledger) (lent : List ℕ) → Valid n l → ((i : ℕ) → l .hand ≡ Hand.Held i → Valid n (rule i s l lent .ledger)) → Valid n (whenHeld rule s l lent .ledger)
+unfolding whenHeld byHeld refused
+held-valid n rule s l lent v w = by (l .hand) refl
+  where
+    by : (h : Hand) → l .hand ≡ h → Valid n (byHeld h (λ i. rule i s l lent) (refused Error.WrongHand l lent) .ledger)
+    by Hand.Idle e = v
+    by (Hand.Held i) e = w i e
+    by (Hand.Sending i) e = v
+    by (Hand.Silent i left) e = v
 
 -- what a hand with a slot tells: the slot is one of n, and the hand holds it and no other
 module _ (n : ℕ) (l : Ledger) (v : Valid n l) where
@@ -129,13 +136,12 @@ policy-valid n Underrun.Error s l block v e = v
 pub turn-valid : (n : ℕ) (s : Setup) (l : Ledger) (block : List ℕ) → Valid n l → Valid n (turn s l block .ledger)
 unfolding turn turnIdle underrun withTotals withFlags
 turn-valid n s l block v =
-    block-valid n s l block _ v
-    (idle-valid n (l .hand) _ _
+    block-valid n (whenIdle turnIdle) s l block v
+    (idle-valid n turnIdle s l block v
     (λ e.
     either n (drained l) (onUnderrun (s .underrun) s (underrun l) block) (takeFront (l .queue) l block)
     (policy-valid n (s .underrun) s (underrun l) block (underrun-valid n l v) e)
-    (take-valid n l v e (l .queue) refl block))
-    (refused-valid n Error.WrongHand l block v))
+    (take-valid n l v e (l .queue) refl block)))
 
 -- the commits
 pub back-valid : (n : ℕ) (l : Ledger) → Valid n l → (i : ℕ) → l .hand ≡ Hand.Held i → (a : Answer) (lent : List ℕ) → Valid n (putBack i a l lent .ledger)
@@ -150,20 +156,18 @@ send-valid n l v i e s lengths block =
 pub commit-valid : (n bytes : ℕ) (s : Setup) (l : Ledger) (block : List ℕ) → Valid n l → Valid n (commit bytes s l block .ledger)
 unfolding commit commitHeld
 commit-valid n bytes s l block v =
-    block-valid n s l block _ v
-    (held-valid n (l .hand) _ _
+    block-valid n (whenHeld (commitHeld bytes)) s l block v
+    (held-valid n (commitHeld bytes) s l block v
     (λ i e.
-    either n (ltb (capacityOf s) bytes) (putBack i (Answer.Refused Error.CommitTooLong) l block)
-    (send s i (shares (s .«packets_per_urb») (s .«packet_bytes») bytes) l block)
+    either n (ltb (capacityOf s) bytes) (putBack i (Answer.Refused Error.CommitTooLong) l block) (send s i (lengthsOf s bytes) l block)
     (back-valid n l v i e (Answer.Refused Error.CommitTooLong) block)
-    (send-valid n l v i e s (shares (s .«packets_per_urb») (s .«packet_bytes») bytes) block))
-    (refused-valid n Error.WrongHand l block v))
+    (send-valid n l v i e s (lengthsOf s bytes) block)))
 
 pub packets-valid : (n : ℕ) (lengths : List ℕ) (s : Setup) (l : Ledger) (block : List ℕ) → Valid n l → Valid n (commitPackets lengths s l block .ledger)
 unfolding commitPackets packetsHeld
 packets-valid n lengths s l block v =
-    block-valid n s l block _ v
-    (held-valid n (l .hand) _ _
+    block-valid n (whenHeld (packetsHeld lengths)) s l block v
+    (held-valid n (packetsHeld lengths) s l block v
     (λ i e.
     let count = putBack i (Answer.Refused Error.PacketCount) l block in
     let long = putBack i (Answer.Refused Error.PacketTooLong) l block in
@@ -172,5 +176,4 @@ packets-valid n lengths s l block v =
     (back-valid n l v i e (Answer.Refused Error.PacketCount) block)
     (either n above long (send s i lengths l block)
     (back-valid n l v i e (Answer.Refused Error.PacketTooLong) block)
-    (send-valid n l v i e s lengths block)))
-    (refused-valid n Error.WrongHand l block v))
+    (send-valid n l v i e s lengths block))))

@@ -12,14 +12,13 @@ use Rattle.ring.specs.Slots.{isFree, one, holds}
 use Rattle.stream.specs.declared.Answer.{Answer}
 use Rattle.ledger.specs.Ledger.{Ledger, Mark, home, out, discarded, withMarks, withFlags, markOf, outs, slotState, stateIn}
 use Rattle.ledger.specs.Step.{refused}
-use Rattle.ledger.specs.Control.{giveBack, startedLedger, start, discardAll, inFlightFrom, stopIdle, stop, finish}
+use Rattle.ledger.specs.Control.{giveBackHeld, giveBack, startedLedger, startIdle, start, discardAll, inFlightFrom, stopIdle, stop, finishIdle, finish}
 use Rattle.ledger.proofs.Valid.{Valid}
 use Rattle.ledger.proofs.Kept.{either, flagged, refused-valid, idle-valid, held-valid, back-valid}
 
 pub give-back-valid : (n : ℕ) (s : Setup) (l : Ledger) (lent : List ℕ) → Valid n l → Valid n (giveBack s l lent .ledger)
-unfolding giveBack
-give-back-valid n s l lent v =
-    held-valid n (l .hand) _ _ (λ i e. back-valid n l v i e Answer.Done lent) (refused-valid n Error.WrongHand l lent v)
+unfolding giveBack giveBackHeld
+give-back-valid n s l lent v = held-valid n giveBackHeld s l lent v (λ i e. back-valid n l v i e Answer.Done lent)
 
 started-valid : (n : ℕ) (b : Bool) (l : Ledger) → Valid n l → Valid n (startedLedger b l)
 unfolding startedLedger
@@ -27,9 +26,8 @@ started-valid n true l v = v
 started-valid n false l v = flagged n true false l v
 
 pub start-valid : (n : ℕ) (s : Setup) (l : Ledger) (lent : List ℕ) → Valid n l → Valid n (start s l lent .ledger)
-unfolding start
-start-valid n s l lent v =
-    idle-valid n (l .hand) _ _ (λ e. started-valid n (l .started) l v) (refused-valid n Error.WrongHand l lent v)
+unfolding start startIdle
+start-valid n s l lent v = idle-valid n startIdle s l lent v (λ e. started-valid n (l .started) l v)
 
 -- a mark after stop
 unfoldable pub stopped : Mark → Mark
@@ -88,7 +86,7 @@ discards-valid n l v =
 pub stop-valid : (n : ℕ) (s : Setup) (l : Ledger) (list : List ℕ) → Valid n l → Valid n (stop s l list .ledger)
 unfolding stop stopIdle
 stop-valid n s l list v =
-    idle-valid n (l .hand) _ _
+    idle-valid n stopIdle s l list v
     (λ e.
     let slots = inFlightFrom 0 (l .marks) in
     either n (ltb (length list) (length slots)) (refused Error.ListTooShort l list)
@@ -99,8 +97,7 @@ stop-valid n s l list v =
     })
     (refused-valid n Error.ListTooShort l list v)
     (flagged n false false _ (discards-valid n l v)))
-    (refused-valid n Error.WrongHand l list v)
 
 pub finish-valid : (n : ℕ) (s : Setup) (l : Ledger) (lent : List ℕ) → Valid n l → Valid n (finish s l lent .ledger)
-unfolding finish
-finish-valid n s l lent v = idle-valid n (l .hand) _ _ (λ e. v) (refused-valid n Error.WrongHand l lent v)
+unfolding finish finishIdle
+finish-valid n s l lent v = idle-valid n finishIdle s l lent v (λ e. v)

@@ -15,9 +15,10 @@ use Rattle.ring.specs.Slots.{one, holds}
 use Rattle.stream.specs.declared.Reaping.{Reaping}
 use Rattle.stream.specs.declared.Submission.{Submission}
 use Rattle.ledger.specs.Ledger.{Ledger, Mark, home, out, discarded, withHand, withQueue, withMarks, withFlags, withTotals, marked, markOf, returned}
-use Rattle.ledger.specs.Step.{refused, putBack}
-use Rattle.ledger.specs.Submitted.{acceptedLedger, submitFailed, sent, chained, silent, bySending, submitted}
-use Rattle.ledger.specs.Reaped.{slotOfUrb, noticed, byAddress, byErrno, reapedIdle, reaped}
+use Rattle.ledger.specs.Step.{refused, whenIdle, putBack}
+use Rattle.ledger.specs.Submitted.{acceptedLedger, submitFailed, sent, chained, silent, bySending, submittedHand, submitted}
+use Rattle.ledger.specs.Notice.{slotOfUrb}
+use Rattle.ledger.specs.Reaped.{noticed, byAddress, byErrno, reapedIdle, reaped}
 use Rattle.ledger.proofs.Valid.{Valid}
 use Rattle.ledger.proofs.Moves.{brought-back, away-not-free}
 use Rattle.ledger.proofs.Kept.{flagged, totalled, refused-valid, block-valid, idle-valid, slot-of, in-sending, in-silent, take-valid, silence-valid}
@@ -42,18 +43,18 @@ accepted-idle : (s : Setup) (i : ℕ) (l : Ledger) (block : List ℕ) → accept
 unfolding acceptedLedger withHand
 accepted-idle s i l block = refl
 
-sent-valid : (n : ℕ) (s : Setup) (r : Submission) (i : ℕ) (l : Ledger) (block : List ℕ) → Valid n (withHand Hand.Idle (returned i l)) → Valid n (withHand Hand.Idle (marked i out l)) → Valid n (sent s r i l block .ledger)
+sent-valid : (n : ℕ) (s : Setup) (r : Submission) (i : ℕ) (l : Ledger) (block : List ℕ) → Valid n (withHand Hand.Idle (returned i l)) → Valid n (withHand Hand.Idle (marked i out l)) → Valid n (sent r i s l block .ledger)
 unfolding sent submitFailed putBack
 sent-valid n s Submission.Accepted i l block v w = accepted-valid n s i l block w
 sent-valid n s (Submission.Errno e) i l block v w = v
 
-silent-valid : (n : ℕ) (s : Setup) (r : Submission) (i left : ℕ) (l : Ledger) (block : List ℕ) → left ≤ 1 → Valid n (withHand Hand.Idle (returned i l)) → Valid n (withHand Hand.Idle (marked i out l)) → Valid n (silent s r i left l block .ledger)
+silent-valid : (n : ℕ) (s : Setup) (r : Submission) (i left : ℕ) (l : Ledger) (block : List ℕ) → left ≤ 1 → Valid n (withHand Hand.Idle (returned i l)) → Valid n (withHand Hand.Idle (marked i out l)) → Valid n (silent r i left s l block .ledger)
 unfolding silent submitFailed putBack
 silent-valid n s Submission.Accepted i left l block b v w =
     chained-valid n s left (acceptedLedger s i l block) block (accepted-valid n s i l block w) (accepted-idle s i l block) b
 silent-valid n s (Submission.Errno e) i left l block b v w = v
 
-sending-valid : (n : ℕ) (s : Setup) (r : Submission) (l : Ledger) (block : List ℕ) → Valid n l → (h : Hand) → l .hand ≡ h → Valid n (bySending h s r l block .ledger)
+sending-valid : (n : ℕ) (s : Setup) (r : Submission) (l : Ledger) (block : List ℕ) → Valid n l → (h : Hand) → l .hand ≡ h → Valid n (bySending r h s l block .ledger)
 unfolding bySending refused holds
 sending-valid n s r l block v Hand.Idle e = v
 sending-valid n s r l block v (Hand.Held i) e = v
@@ -65,8 +66,8 @@ sending-valid n s r l block v (Hand.Silent i left) e =
     silent-valid n s r i left l block (in-silent n l v i left e .1) (w .0) (w .1)
 
 pub submitted-valid : (n : ℕ) (r : Submission) (s : Setup) (l : Ledger) (block : List ℕ) → Valid n l → Valid n (submitted r s l block .ledger)
-unfolding submitted
-submitted-valid n r s l block v = block-valid n s l block _ v (sending-valid n s r l block v (l .hand) refl)
+unfolding submitted submittedHand
+submitted-valid n r s l block v = block-valid n (submittedHand r) s l block v (sending-valid n s r l block v (l .hand) refl)
 
 -- reaped
 -- a slot that is not at home is one of n
@@ -95,7 +96,7 @@ unfolding byAddress
 address-valid n s l v e Found.Nothing block = v
 address-valid n s l v e (Found.Slot i) block = noticed-valid n s l v e i (markOf l i) refl block
 
-reaping-valid : (n : ℕ) (s : Setup) (l : Ledger) → Valid n l → l .hand ≡ Hand.Idle → (r : Reaping) (block : List ℕ) → Valid n (reapedIdle s r l block .ledger)
+reaping-valid : (n : ℕ) (s : Setup) (l : Ledger) → Valid n l → l .hand ≡ Hand.Idle → (r : Reaping) (block : List ℕ) → Valid n (reapedIdle r s l block .ledger)
 unfolding reapedIdle byErrno
 reaping-valid n s l v e (Reaping.Errno x) block = v
 reaping-valid n s l v e (Reaping.Address a) block = address-valid n s l v e (slotOfUrb s a block) block
@@ -103,5 +104,5 @@ reaping-valid n s l v e (Reaping.Address a) block = address-valid n s l v e (slo
 pub reaped-valid : (n : ℕ) (r : Reaping) (s : Setup) (l : Ledger) (block : List ℕ) → Valid n l → Valid n (reaped r s l block .ledger)
 unfolding reaped
 reaped-valid n r s l block v =
-    block-valid n s l block _ v
-    (idle-valid n (l .hand) _ _ (λ e. reaping-valid n s l v e r block) (refused-valid n Error.WrongHand l block v))
+    block-valid n (whenIdle (reapedIdle r)) s l block v
+    (idle-valid n (reapedIdle r) s l block v (λ e. reaping-valid n s l v e r block))

@@ -1,10 +1,10 @@
-pub mod Table
 pub mod View
 pub mod Valid
 pub mod Moves
 pub mod Kept
 pub mod KeptReplies
 pub mod KeptControl
+pub mod Steps
 pub mod Found
 pub mod Rings
 pub mod InHand

@@ -12,7 +12,7 @@ use borrow.Author.Tests.{eq-eqb, ne-eqb}
 use Rattle.ring.specs.declared.Hand.{Hand}
 use Rattle.ring.specs.declared.Ring.{Ring}
 use Rattle.ring.specs.declared.SlotState.{SlotState}
-use Rattle.ring.specs.Moves.{returned, accepted, completed}
+use Rattle.ring.specs.Moves.{returned, markedInFlight, completed}
 use Rattle.ring.specs.Parts.{queueOf, stateOf, withQueue, withOut, withState}
 use Rattle.ring.specs.Slots.{holds}
 use Rattle.ring.proofs.Pigeonhole.{front-free}
@@ -52,8 +52,8 @@ settle : (r : Ring) (i : ℕ) (q q' : List ℕ) (x x' : SlotState) (k : ℕ) →
 unfolding withOut withState withQueue
 settle r i q q' x x' k a b c = rw (a, b, c)
 
-settle-out : (r : Ring) (i : ℕ) (q : List ℕ) (k : ℕ) → r .«free_len» ≤ 256 → Wide r → q ≡ queueOf r → k ≡ r .«in_flight» + 1 → withOut (withState (withQueue r q) i (slotState false out)) k ≡ accepted r i
-unfolding accepted withOut withState slotState
+settle-out : (r : Ring) (i : ℕ) (q : List ℕ) (k : ℕ) → r .«free_len» ≤ 256 → Wide r → q ≡ queueOf r → k ≡ r .«in_flight» + 1 → withOut (withState (withQueue r q) i (slotState false out)) k ≡ markedInFlight r i
+unfolding markedInFlight withOut withState slotState
 settle-out r i q k short wide a b =
     rw (a, queue-kept r (omega (arith, wide .places)), b)
 
@@ -137,7 +137,7 @@ module _ (s : Stream) (ok : sound s ≡ true) (wide : Wide (s .ring)) where
       settle (s .ring) i _ _ _ _ _ lq state-home (omega (arith, outs-after l i home below lm, ap away (hand-home i below held)))
 
   -- the hand's slot accepted by the kernel
-  pub ring-accepted : (l : Ledger) (i : ℕ) → i < s .setup .slots → l .hand ≡ Hand.Idle → l .queue ≡ queueOf (s .ring) → l .marks ≡ set (view s .marks) i out → holds (s .hand) i ≡ true → ((j : ℕ) → (j ≡ i → ⊥) → holds (s .hand) j ≡ false) → ringFor (s .setup .slots) (s .ring) l ≡ accepted (s .ring) i
+  pub ring-accepted : (l : Ledger) (i : ℕ) → i < s .setup .slots → l .hand ≡ Hand.Idle → l .queue ≡ queueOf (s .ring) → l .marks ≡ set (view s .marks) i out → holds (s .hand) i ≡ true → ((j : ℕ) → (j ≡ i → ⊥) → holds (s .hand) j ≡ false) → ringFor (s .setup .slots) (s .ring) l ≡ markedInFlight (s .ring) i
   unfolding away
   ring-accepted l i below idle lq lm held alone =
       ring-marked l i below out idle lm alone ∙

@@ -2,30 +2,28 @@
 -- Assumes nothing.
 use mathlib.Core.Path.{_≡_, refl, sym, ap, _∙_}
 use mathlib.Core.Bool.{Bool, true, false, false≢true}
-use mathlib.Core.List.{List, _++_, map}
 use Prim.Native.Nat.{ℕ, _≤_, _<_}
-use native.Mathlib.Nat.{zero-add}
 use native.Mathlib.Omega.{arith}
-use lib.ListN.{length, getD, take, drop, List·getD-map, length-map, length-append, length-drop}
-use lib.Seq.{ext-getD, take-at, take-append-seam}
-use Rattle.layout.specs.Opening.{accepted}
-use Rattle.ring.specs.declared.Cell.{Cell}
+use lib.ListN.{length}
+use Rattle.layout.specs.Opening.{admissible}
 use Rattle.ring.specs.declared.Ring.{Ring}
 use Rattle.ring.specs.declared.SlotState.{SlotState}
 use Rattle.ring.specs.Slots.{isFree, isFilling, isOut, one, holds, handWithin}
-use Rattle.ring.specs.Counts.{howMany, times, allBelow}
-use Rattle.ring.specs.Parts.{queueOf, stateOf}
+use Rattle.ring.specs.Counts.{table, howMany, times, allBelow}
+use Rattle.ring.specs.Parts.{queueOf, stateOf, withQueue, withOut}
 use Rattle.ring.proofs.Counts.{count-at-most}
-use Rattle.ring.proofs.Truth.{both}
+use Rattle.ring.proofs.Numbers.{table-is}
 use Rattle.ring.proofs.Pigeonhole.{length-counted}
+use Rattle.ring.proofs.Queue.{queue-put, places-put}
 use Rattle.ring.proofs.Sound.{Sound, facts-sound}
-use Rattle.ring.proofs.Wide.{Wide}
+use Rattle.ring.proofs.States.{Parts, parts-queue, kept-wide, states-wide, states-parts, state-below}
+use Rattle.ring.proofs.Truth.{both}
+use Rattle.ring.proofs.Wide.{Wide, StatesWide}
 use Rattle.stream.specs.declared.Stream.{Stream}
 use Rattle.stream.specs.Parts.{withState}
 use Rattle.stream.specs.Sound.{sound}
 use Rattle.ledger.specs.Ledger.{Ledger, Mark, home, out, discarded, markOf, outs, slotState, stateIn}
-use Rattle.ledger.specs.Record.{markFor, view, statesFrom, ringFor, stored}
-use Rattle.ledger.proofs.Table.{free-cell, table-long, table-at, joined-long, joined-below}
+use Rattle.ledger.specs.Record.{markFor, view, ringFor, stored}
 use Rattle.ledger.proofs.View.{outs-counted, facts, view-marks-long, view-mark, view-state}
 
 pub record Valid (n : ℕ) (l : Ledger) : Type 0 where
@@ -85,52 +83,48 @@ module _ (l : Ledger) (n : ℕ) (v : Valid n l) where
   unfolding stateIn
   mark-back i h = marked-back (holds (l .hand) i) (markOf l i) (v .at-home i h)
 
-  -- the marks of the table's states are the ledger's
-  table-marks : (old : List Cell) → n ≤ length old → map (λ (c : Cell). markFor (c .state)) (take n (statesFrom l 0 n ++ drop n old)) ≡ l .marks
-  unfolding markFor markOf
-  table-marks old w =
-      ap (map (λ (c : Cell). markFor (c .state))) (take-at (statesFrom l 0 n) (drop n old) n (table-long l 0 n)) ∙
-      ext-getD home _ _ (long ∙ sym (v .long)) (λ i h. at i (rw long at h))
-    where
-      long : length (map (λ (c : Cell). markFor (c .state)) (statesFrom l 0 n)) ≡ n
-      long = length-map (statesFrom l 0 n) (λ (c : Cell). markFor (c .state)) ∙ table-long l 0 n
-
-      at : (i : ℕ) → i < n → getD (map (λ (c : Cell). markFor (c .state)) (statesFrom l 0 n)) i home ≡ getD (l .marks) i home
-      at i h =
-          List·getD-map (λ (c : Cell). markFor (c .state)) (statesFrom l 0 n) i free-cell ∙
-          ap (λ (c : Cell). markFor (c .state)) (table-at l 0 n i h) ∙
-          ap (λ (j : ℕ). markFor (stateIn l j)) (zero-add i) ∙
-          mark-back i h
-
   module _ (r : Ring) (wide : Wide r) where
-    old-long : n ≤ length (r .states)
-    old-long = omega (arith, v .few, wide .table)
+    -- the ring that shows the ledger, before its states are put
+    base : Ring
+    base = withOut (withQueue r (l .queue)) (outs (l .marks))
+
+    base-wide : StatesWide base
+    unfolding base
+    base-wide = kept-wide r (l .queue) (outs (l .marks)) (wide .states)
+
+    shown-parts : Parts (ringFor n r l) base
+    unfolding ringFor base
+    shown-parts = states-parts (stateIn l) base n
 
     pub shown-queue : queueOf (ringFor n r l) ≡ l .queue
-    unfolding queueOf ringFor
-    shown-queue = take-append-seam (l .queue) (drop (length (l .queue)) (r .free))
+    unfolding base
+    shown-queue = parts-queue _ _ shown-parts ∙ queue-put r (l .queue) (outs (l .marks))
 
     pub shown-state : (i : ℕ) → i < n → stateOf (ringFor n r l) i ≡ stateIn l i
-    unfolding stateOf ringFor
-    shown-state i h = ap (λ (c : Cell). c .state) (joined-below l n (r .states) old-long i h)
+    unfolding ringFor base
+    shown-state i h = state-below (stateIn l) base base-wide n (v .few) i h
 
     pub shown-wide : Wide (ringFor n r l)
-    unfolding ringFor
+    unfolding ringFor base
     shown-wide =
         record {
-          table = joined-long l n (r .states) old-long ∙ wide .table;
-          places = rw (length-append, length-drop, wide .places) (omega (arith, queue-fits, v .few));
+          states = states-wide (stateIn l) base n base-wide;
+          places = ap length (shown-parts .free) ∙ places-put r (l .queue) (outs (l .marks)) (wide .places) (omega (arith, queue-fits, v .few));
         }
 
     shown-short : ringFor n r l .«free_len» ≤ 256
-    unfolding ringFor
-    shown-short = omega (arith, queue-fits, v .few)
+    unfolding base withOut withQueue
+    shown-short = rw (shown-parts .len) (omega (arith, queue-fits, v .few))
+
+    -- the marks of its states are the ledger's
+    pub shown-marks : table (λ i. markFor (stateOf (ringFor n r l) i)) n ≡ l .marks
+    unfolding markOf
+    shown-marks =
+        table-is (λ i. markFor (stateOf (ringFor n r l) i)) home n (l .marks) (v .long) (λ i h. ap markFor (shown-state i h) ∙ mark-back i h)
 
     pub shown-outs : ringFor n r l .«in_flight» ≡ howMany n (λ i. isOut (stateOf (ringFor n r l) i))
-    unfolding ringFor stateOf
-    shown-outs =
-        sym (ap outs (table-marks (r .states) old-long)) ∙
-        outs-counted n (statesFrom l 0 n ++ drop n (r .states)) (rw (joined-long l n (r .states) old-long) old-long)
+    unfolding base withOut
+    shown-outs = shown-parts .out ∙ sym (ap outs shown-marks) ∙ outs-counted (stateOf (ringFor n r l)) n
 
     shown-held : (i : ℕ) → isFilling (stateIn l i) ≡ holds (l .hand) i
     unfolding stateIn
@@ -149,7 +143,7 @@ module _ (l : Ledger) (n : ℕ) (v : Valid n l) where
         }
 
 -- a record that shows a valid ledger: it is sound, and it shows that ledger
-module _ (s : Stream) (l : Ledger) (v : Valid (s .setup .slots) l) (ok : accepted (s .setup) ≡ true) (wide : Wide (s .ring)) where
+module _ (s : Stream) (l : Ledger) (v : Valid (s .setup .slots) l) (ok : admissible (s .setup) ≡ true) (wide : Wide (s .ring)) where
   pub stored-wide : Wide (stored s l .ring)
   unfolding stored withState
   stored-wide = shown-wide l (s .setup .slots) v (s .ring) wide
@@ -157,22 +151,19 @@ module _ (s : Stream) (l : Ledger) (v : Valid (s .setup .slots) l) (ok : accepte
   pub stored-sound : sound (stored s l) ≡ true
   unfolding sound stored withState
   stored-sound =
-      both (accepted (s .setup)) _ ok
+      both (admissible (s .setup)) _ ok
       (facts-sound (s .setup .slots) (ringFor (s .setup .slots) (s .ring) l) (l .hand)
       (shown-sound l (s .setup .slots) v (s .ring) wide))
 
   pub view-stored : view (stored s l) ≡ l
-  unfolding view stored withState ringFor
+  unfolding view stored withState
   view-stored =
       λ i.
       record {
         hand = l .hand;
         queue = shown-queue l (s .setup .slots) v (s .ring) wide i;
-        marks = marks-back i;
+        marks = shown-marks l (s .setup .slots) v (s .ring) wide i;
         started = l .started;
         armed = l .armed;
         totals = l .totals;
       }
-    where
-      marks-back : map (λ (c : Cell). markFor (c .state)) (take (s .setup .slots) (ringFor (s .setup .slots) (s .ring) l .states)) ≡ l .marks
-      marks-back = table-marks l (s .setup .slots) v (s .ring .states) (old-long l (s .setup .slots) v (s .ring) wide)

@@ -2,32 +2,27 @@
 -- Assumes nothing.
 use mathlib.Core.Path.{_≡_, refl, sym, ap, _∙_}
 use mathlib.Core.Bool.{Bool, true, false, true≢false, false≢true}
-use mathlib.Core.List.{List, [], _∷_, _++_, map, map-append}
+use mathlib.Core.List.{List, [], _∷_, _++_}
 use Prim.Native.Nat.{ℕ, zero, suc, _+_, _≤_, _<_}
 use native.Mathlib.Omega.{arith}
-use native.Mathlib.Decide.{ℕ-discrete}
-use lib.ListN.{length, getD, take, set, length-set, List·getD-map, length-map}
-use lib.Seq.{getD-take, length-take-le, take-suc, getD-set-same, getD-set-other}
-use Rattle.ring.specs.declared.Cell.{Cell}
+use native.Mathlib.Decide.{ℕ-discrete, decLt}
+use lib.ListN.{length}
 use Rattle.ring.specs.declared.Ring.{Ring}
 use Rattle.ring.specs.declared.SlotState.{SlotState}
 use Rattle.ring.specs.Slots.{isFilling, isOut, one, holds}
-use Rattle.ring.specs.Counts.{howMany}
-use Rattle.ring.specs.Parts.{queueOf, stateOf, withQueue, withOut, withState as Ring·withState}
+use Rattle.ring.specs.Counts.{table, howMany}
+use Rattle.ring.specs.Parts.{queueOf, stateOf, withQueue, withOut, withStates, withState as Ring·withState}
+use Rattle.ring.proofs.Numbers.{table-long, table-at}
 use Rattle.ring.proofs.Sound.{Sound}
+use Rattle.ring.proofs.States.{Parts, state-put, state-other, put-wide, put-parts, state-queued, state-counted, state-kept, kept-wide, states-wide, states-parts, state-above, state-below, ring-same}
 use Rattle.ring.proofs.Queue.{queue-kept}
-use Rattle.ring.proofs.Wide.{Wide}
+use Rattle.ring.proofs.Wide.{Wide, StatesWide}
 use Rattle.stream.specs.declared.Stream.{Stream}
 use Rattle.stream.specs.Parts.{withState}
 use Rattle.stream.specs.Sound.{sound}
 use Rattle.stream.proofs.Soundness.{ring-sound}
 use Rattle.ledger.specs.Ledger.{Ledger, Mark, home, out, discarded, markOf, outs, slotState, stateIn}
 use Rattle.ledger.specs.Record.{markFor, view, ringFor, stored}
-use Rattle.ledger.proofs.Table.{free-cell, joined-is}
-
-pub ring-path : (a b : Ring) → a .states ≡ b .states → a .free ≡ b .free → a .«free_len» ≡ b .«free_len» → a .«in_flight» ≡ b .«in_flight» → a ≡ b
-ring-path a b p q r t =
-    λ i. record { states = p i; free = q i; «free_len» = r i; «in_flight» = t i }
 
 -- a state is that of its mark, where the hand holds the slot exactly when it is Filling
 pub restored : (state : SlotState) (held : Bool) → isFilling state ≡ held → slotState held (markFor state) ≡ state
@@ -48,7 +43,7 @@ outs-append (home ∷ a) b = outs-append a b
 outs-append (out ∷ a) b = omega (arith, outs-append a b)
 outs-append (discarded ∷ a) b = omega (arith, outs-append a b)
 
--- a cell's part in the out count
+-- a state's part in the out count
 one-out : (state : SlotState) → outs (markFor state ∷ []) ≡ one (isOut state)
 unfolding outs markFor one isOut
 one-out SlotState.Free = refl
@@ -56,13 +51,12 @@ one-out SlotState.Filling = refl
 one-out SlotState.InFlight = refl
 one-out SlotState.Discarding = refl
 
--- how many of the first n cells are out
-pub outs-counted : (n : ℕ) (cells : List Cell) → n ≤ length cells → outs (map (λ (c : Cell). markFor (c .state)) (take n cells)) ≡ howMany n (λ i. isOut (getD cells i free-cell .state))
-unfolding howMany outs
-outs-counted zero cells h = refl
-outs-counted (suc n) cells h =
-    rw (take-suc cells n free-cell, map-append, outs-append)
-    (omega (arith, outs-counted n cells (omega arith), one-out (getD cells n free-cell .state)))
+-- how many of n slots are out
+pub outs-counted : (state : ℕ → SlotState) (n : ℕ) → outs (table (λ i. markFor (state i)) n) ≡ howMany n (λ i. isOut (state i))
+unfolding howMany outs table
+outs-counted state zero = refl
+outs-counted state (suc n) =
+    outs-append (table (λ i. markFor (state i)) n) (markFor (state n) ∷ []) ∙ omega (arith, outs-counted state n, one-out (state n))
 
 module _ (s : Stream) (ok : sound s ≡ true) (wide : Wide (s .ring)) where
   pub facts : Sound (s .setup .slots) (s .ring) (s .hand)
@@ -70,15 +64,11 @@ module _ (s : Stream) (ok : sound s ≡ true) (wide : Wide (s .ring)) where
 
   pub view-marks-long : length (view s .marks) ≡ s .setup .slots
   unfolding view
-  view-marks-long =
-      length-map (take (s .setup .slots) (s .ring .states)) (λ (c : Cell). markFor (c .state)) ∙
-      length-take-le (s .setup .slots) (s .ring .states) (omega (arith, facts .few, wide .table))
+  view-marks-long = table-long (λ i. markFor (stateOf (s .ring) i)) (s .setup .slots)
 
   pub view-mark : (i : ℕ) → i < s .setup .slots → markOf (view s) i ≡ markFor (stateOf (s .ring) i)
-  unfolding view markOf markFor stateOf
-  view-mark i h =
-      List·getD-map (λ (c : Cell). markFor (c .state)) (take (s .setup .slots) (s .ring .states)) i free-cell ∙
-      ap (λ (c : Cell). markFor (c .state)) (getD-take (s .setup .slots) (s .ring .states) i free-cell h)
+  unfolding view markOf
+  view-mark i h = table-at (λ j. markFor (stateOf (s .ring) j)) home (s .setup .slots) i h
 
   pub view-state : (i : ℕ) → i < s .setup .slots → stateIn (view s) i ≡ stateOf (s .ring) i
   unfolding stateIn view
@@ -86,41 +76,71 @@ module _ (s : Stream) (ok : sound s ≡ true) (wide : Wide (s .ring)) where
       ap (slotState (holds (s .hand) i)) (view-mark i h) ∙ restored (stateOf (s .ring) i) (holds (s .hand) i) (facts .held i h)
 
   pub view-outs : outs (view s .marks) ≡ s .ring .«in_flight»
-  unfolding view stateOf
-  view-outs = outs-counted (s .setup .slots) (s .ring .states) (omega (arith, facts .few, wide .table)) ∙ sym (facts .out)
+  unfolding view
+  view-outs = outs-counted (stateOf (s .ring)) (s .setup .slots) ∙ sym (facts .out)
 
-  -- the record with another ledger: its states below n are the ledger's, all else of the table is as it was
-  pub stored-states : (l : Ledger) (cells : List Cell) → length cells ≡ 256 → ((j : ℕ) → j < s .setup .slots → getD cells j free-cell .state ≡ stateIn l j) → ((j : ℕ) → s .setup .slots ≤ j → getD cells j free-cell ≡ getD (s .ring .states) j free-cell) → ringFor (s .setup .slots) (s .ring) l .states ≡ cells
+  -- the ring that shows a ledger is any ring with its queue and out count, its states below n, and the others as they were
+  pub ring-shows : (l : Ledger) (r : Ring) → StatesWide r → ((j : ℕ) → j < s .setup .slots → stateOf r j ≡ stateIn l j) → ((j : ℕ) → s .setup .slots ≤ j → stateOf r j ≡ stateOf (s .ring) j) → Parts r (withOut (withQueue (s .ring) (l .queue)) (outs (l .marks))) → ringFor (s .setup .slots) (s .ring) l ≡ r
   unfolding ringFor
-  stored-states l cells long below above =
-      joined-is l (s .setup .slots) (s .ring .states) (omega (arith, facts .few, wide .table)) cells (long ∙ sym (wide .table))
-      (λ j h. ap (λ (x : SlotState). record { state = x }) (below j h)) above
-
-  -- the ring that shows a ledger in which only slot i is in another state
-  pub one-changed : (l : Ledger) (i : ℕ) → i < s .setup .slots → ((j : ℕ) → j < s .setup .slots → (j ≡ i → ⊥) → stateIn l j ≡ stateOf (s .ring) j) → ringFor (s .setup .slots) (s .ring) l ≡ withOut (Ring·withState (withQueue (s .ring) (l .queue)) i (stateIn l i)) (outs (l .marks))
-  unfolding ringFor withOut Ring·withState withQueue stateOf
-  one-changed l i h others =
-      ring-path _ _
-      (stored-states l (set (s .ring .states) i (record { state = stateIn l i })) (rw length-set (wide .table)) below above)
-      refl refl refl
+  ring-shows l r w below above parts =
+      ring-same _ r (states-wide (stateIn l) base n base-wide) w (λ j. at j (decLt j n))
+      (record { free = same .free ∙ sym (parts .free); len = same .len ∙ sym (parts .len); out = same .out ∙ sym (parts .out) })
     where
-      below : (j : ℕ) → j < s .setup .slots → getD (set (s .ring .states) i (record { state = stateIn l i })) j free-cell .state ≡ stateIn l j
-      below j p = go (ℕ-discrete j i)
-        where
-          go : Dec (j ≡ i) → getD (set (s .ring .states) i (record { state = stateIn l i })) j free-cell .state ≡ stateIn l j
-          go (yes e) =
-              rw e (ap (λ (c : Cell). c .state) (getD-set-same (s .ring .states) i _ free-cell (omega (arith, facts .few, wide .table))))
-          go (no e) =
-              ap (λ (c : Cell). c .state) (getD-set-other (s .ring .states) i j _ free-cell e) ∙ sym (others j p e)
+      n : ℕ
+      n = s .setup .slots
 
-      above : (j : ℕ) → s .setup .slots ≤ j → getD (set (s .ring .states) i (record { state = stateIn l i })) j free-cell ≡ getD (s .ring .states) j free-cell
-      above j p = getD-set-other (s .ring .states) i j _ _ (λ e. omega arith)
+      base : Ring
+      base = withOut (withQueue (s .ring) (l .queue)) (outs (l .marks))
 
-  -- the ring that shows a ledger in which every slot is in the same state
+      base-wide : StatesWide base
+      base-wide = kept-wide (s .ring) (l .queue) (outs (l .marks)) (wide .states)
+
+      same : Parts (withStates n (stateIn l) base) base
+      same = states-parts (stateIn l) base n
+
+      at : (j : ℕ) → Dec (j < n) → stateOf (withStates n (stateIn l) base) j ≡ stateOf r j
+      at j (yes p) = state-below (stateIn l) base base-wide n (facts .few) j p ∙ sym (below j p)
+      at j (no p) =
+          let q : n ≤ j = omega arith in
+          state-above (stateIn l) base n j q ∙ state-kept (s .ring) (l .queue) (outs (l .marks)) j ∙ sym (above j q)
+
+  -- a ledger in which only slot i is in another state
+  pub one-changed : (l : Ledger) (i : ℕ) → i < s .setup .slots → ((j : ℕ) → j < s .setup .slots → (j ≡ i → ⊥) → stateIn l j ≡ stateOf (s .ring) j) → ringFor (s .setup .slots) (s .ring) l ≡ withOut (Ring·withState (withQueue (s .ring) (l .queue)) i (stateIn l i)) (outs (l .marks))
+  unfolding withOut withQueue
+  one-changed l i h others =
+      ring-shows l (withOut put count) (put-wide base i (stateIn l i) (wide .states)) (λ j p. below j p (ℕ-discrete j i)) above
+      (record { free = parts .free; len = parts .len; out = refl })
+    where
+      base : Ring
+      base = withQueue (s .ring) (l .queue)
+
+      put : Ring
+      put = Ring·withState base i (stateIn l i)
+
+      count : ℕ
+      count = outs (l .marks)
+
+      parts : Parts put base
+      parts = put-parts base i (stateIn l i)
+
+      below : (j : ℕ) → j < s .setup .slots → Dec (j ≡ i) → stateOf (withOut put count) j ≡ stateIn l j
+      below j p (yes e) =
+          state-counted put count j ∙ rw e (state-put base i (stateIn l i) (wide .states) (omega (arith, facts .few)))
+      below j p (no e) =
+          state-counted put count j ∙ state-other base i (stateIn l i) j e ∙ state-queued (s .ring) (l .queue) j ∙ sym (others j p e)
+
+      above : (j : ℕ) → s .setup .slots ≤ j → stateOf (withOut put count) j ≡ stateOf (s .ring) j
+      above j p =
+          state-counted put count j ∙ state-other base i (stateIn l i) j (λ e. omega arith) ∙ state-queued (s .ring) (l .queue) j
+
+  -- a ledger in which every slot is in the same state
   pub none-changed : (l : Ledger) → ((j : ℕ) → j < s .setup .slots → stateIn l j ≡ stateOf (s .ring) j) → ringFor (s .setup .slots) (s .ring) l ≡ withOut (withQueue (s .ring) (l .queue)) (outs (l .marks))
-  unfolding ringFor withOut withQueue stateOf
   none-changed l same =
-      ring-path _ _ (stored-states l (s .ring .states) (wide .table) (λ j h. sym (same j h)) (λ j h. refl)) refl refl refl
+      ring-shows l _ (kept-wide (s .ring) (l .queue) (outs (l .marks)) (wide .states)) (λ j h. kept j ∙ sym (same j h)) (λ j h. kept j)
+      (record { free = refl; len = refl; out = refl })
+    where
+      kept : (j : ℕ) → stateOf (withOut (withQueue (s .ring) (l .queue)) (outs (l .marks))) j ≡ stateOf (s .ring) j
+      kept = state-kept (s .ring) (l .queue) (outs (l .marks))
 
   -- storing what a sound record shows changes nothing
   pub stored-view : stored s (view s) ≡ s

@@ -5,14 +5,16 @@ use mathlib.Core.List.{List, [], _∷_, _++_}
 use lib.Dec.{ltb, eqb}
 use lib.ListN.{length, drop}
 use Rattle.error.specs.declared.Error.{Error}
-use Rattle.layout.specs.declared.Setup.{Setup}
 use Rattle.stream.specs.declared.Answer.{Answer}
 use Rattle.ledger.specs.Ledger.{Ledger, Mark, home, out, discarded, withFlags, withMarks, outs}
-use Rattle.ledger.specs.Step.{Next, refused, onIdle, onHeld, putBack}
+use Rattle.ledger.specs.Step.{Rule, refused, whenIdle, whenHeld, putBack}
 
 -- Returned, Idle, Done.
-unfoldable pub giveBack : Setup → Ledger → List ℕ → Next
-giveBack s l lent = onHeld (l .hand) (λ i. putBack i Answer.Done l lent) (refused Error.WrongHand l lent)
+unfoldable pub giveBackHeld : ℕ → Rule
+giveBackHeld i s l lent = putBack i Answer.Done l lent
+
+unfoldable pub giveBack : Rule
+giveBack = whenHeld giveBackHeld
 
 -- If not started: started, armed off; else no effect.
 unfoldable pub startedLedger : Bool → Ledger → Ledger
@@ -20,10 +22,11 @@ startedLedger true l = l
 startedLedger false l = withFlags true false l
 
 -- Done either way.
-unfoldable pub start : Setup → Ledger → List ℕ → Next
-start s l lent =
-    onIdle (l .hand) (record { ledger = startedLedger (l .started) l; answer = Answer.Done; lent = lent })
-    (refused Error.WrongHand l lent)
+unfoldable pub startIdle : Rule
+startIdle s l lent = record { ledger = startedLedger (l .started) l; answer = Answer.Done; lent = lent }
+
+unfoldable pub start : Rule
+start = whenIdle startIdle
 
 -- Each InFlight slot becomes Discarding.
 unfoldable pub discardAll : List Mark → List Mark
@@ -41,8 +44,8 @@ inFlightFrom i (discarded ∷ rest) = inFlightFrom (suc i) rest
 
 -- Refused 20, nothing differing, if the list is too short; else both flags off, their numbers into the list, its rest
 -- unchanged, and Done with how many.
-unfoldable pub stopIdle : Ledger → List ℕ → Next
-stopIdle l list =
+unfoldable pub stopIdle : Rule
+stopIdle s l list =
     let slots = inFlightFrom 0 (l .marks) in
     cond (ltb (length list) (length slots)) (refused Error.ListTooShort l list)
     (record {
@@ -51,12 +54,13 @@ stopIdle l list =
       lent = slots ++ drop (length slots) list;
     })
 
-unfoldable pub stop : Setup → Ledger → List ℕ → Next
-stop s l list = onIdle (l .hand) (stopIdle l list) (refused Error.WrongHand l list)
+unfoldable pub stop : Rule
+stop = whenIdle stopIdle
 
 -- Yes exactly when none is out, else 13; nothing differs.
-unfoldable pub finish : Setup → Ledger → List ℕ → Next
-finish s l lent =
-    onIdle (l .hand)
-    (record { ledger = l; answer = cond (eqb (outs (l .marks)) 0) Answer.Yes (Answer.Refused Error.Disconnected); lent = lent })
-    (refused Error.WrongHand l lent)
+unfoldable pub finishIdle : Rule
+finishIdle s l lent =
+    record { ledger = l; answer = cond (eqb (outs (l .marks)) 0) Answer.Yes (Answer.Refused Error.Disconnected); lent = lent }
+
+unfoldable pub finish : Rule
+finish = whenIdle finishIdle

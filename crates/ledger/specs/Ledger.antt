@@ -5,9 +5,9 @@ use mathlib.Core.List.{List, [], _∷_, _++_}
 use lib.ListN.{getD, set, replicate}
 use Rattle.ring.specs.declared.SlotState.{SlotState}
 use Rattle.ring.specs.declared.Hand.{Hand}
+use Rattle.ring.specs.Counts.{slotNumbers}
 use Rattle.ring.specs.Slots.{holds}
 use Rattle.stream.specs.declared.IsoStats.{IsoStats}
-use Rattle.stream.specs.Opened.{slotNumbers}
 use Rattle.stream.specs.Parts.{noStats}
 
 -- Whether a slot is out: home (no: in the queue or in hand), out, or out with a discard mark.

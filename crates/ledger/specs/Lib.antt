@@ -1,5 +1,6 @@
 pub mod Ledger
-pub mod Block
+pub mod Slot
+pub mod Notice
 pub mod Step
 pub mod Turn
 pub mod Commit
@@ -7,4 +8,6 @@ pub mod Submitted
 pub mod Reaped
 pub mod Control
 pub mod Record
+pub mod Calls
+pub mod Told
 pub mod Gives

@@ -1,38 +1,21 @@
 -- reaped (Idle).
-use Prim.Native.Nat.{ℕ, _-_, _*_, _/_, _%_}
-use mathlib.Core.Bool.{Bool, true, false, cond, not, _||_}
+use Prim.Native.Nat.{ℕ}
+use mathlib.Core.Bool.{Bool, true, false, cond, _||_}
 use mathlib.Core.List.{List}
-use lib.Dec.{ltb, leb, eqb}
+use lib.Dec.{eqb}
 use lib.IntN.{ℤ, pos, negsuc}
 use Rattle.error.specs.declared.Error.{Error}
 use Rattle.error.specs.Errno.{fromErrno}
 use Rattle.error.specs.declared.ErrnoContext.{ErrnoContext}
 use Rattle.layout.specs.declared.Setup.{Setup}
-use Rattle.layout.specs.Opening.{maskedOf, layoutFor}
 use Rattle.ring.specs.declared.Found.{Found}
 use Rattle.stream.specs.declared.Answer.{Answer}
 use Rattle.stream.specs.declared.Completion.{Completion}
 use Rattle.stream.specs.declared.IsoStats.{IsoStats}
 use Rattle.stream.specs.declared.Reaping.{Reaping}
 use Rattle.ledger.specs.Ledger.{Ledger, Mark, home, out, discarded, withTotals, markOf, returned, plus}
-use Rattle.ledger.specs.Block.{cookieOf, completionOf}
-use Rattle.ledger.specs.Step.{Next, refused, onBlock, onIdle}
-
--- An offset from the base names a slot unless it is at or past n × stride, not a multiple of the stride, or the cookie there isn't that index.
-unfoldable pub slotAt : Setup → ℕ → List ℕ → Found
-slotAt s offset block =
-    let stride = layoutFor s .«slot_stride» in
-    let i = offset / stride in
-    cond (leb (s .slots * stride) offset) Found.Nothing
-    (cond (not (eqb (offset % stride) 0)) Found.Nothing
-    (cond (eqb (cookieOf s i block) i) (Found.Slot i) Found.Nothing))
-
--- The slot that an address names: offset from the base, both masked; none below the base.
-unfoldable pub slotOfUrb : Setup → ℕ → List ℕ → Found
-slotOfUrb s address block =
-    let base = maskedOf (s .tagged) (s .base) in
-    let at = maskedOf (s .tagged) address in
-    cond (ltb at base) Found.Nothing (slotAt s (at - base) block)
+use Rattle.ledger.specs.Notice.{slotOfUrb, completionOf}
+use Rattle.ledger.specs.Step.{Next, Rule, refused, onBlock, whenIdle}
 
 -- Status 0.
 unfoldable pub isZero : ℤ → Bool
@@ -62,8 +45,8 @@ oneCompleted c t =
       underruns = t .underruns;
     }
 
--- A slot's notice, by its mark. home is Free here, since the hand is Idle: 18, nothing differs. Else it is returned, answer Completion; if not
--- discarded the counters move, and status -19 or -108 answers 13, all this having been done.
+-- A slot's notice, by its mark. home is Free here, since the hand is Idle: 18, nothing differs. Else it is returned, answer Completion; if
+-- not discarded the counters move, and status -19 or -108 answers 13, all this having been done.
 unfoldable pub noticed : Setup → Mark → ℕ → Ledger → List ℕ → Next
 noticed s home i l block = refused Error.StrayNotice l block
 noticed s out i l block =
@@ -90,9 +73,10 @@ byErrno errno l block =
       lent = block;
     }
 
-unfoldable pub reapedIdle : Setup → Reaping → Ledger → List ℕ → Next
-reapedIdle s (Reaping.Errno e) l block = byErrno e l block
-reapedIdle s (Reaping.Address a) l block = byAddress s (slotOfUrb s a block) l block
+-- By the kernel's reply.
+unfoldable pub reapedIdle : Reaping → Rule
+reapedIdle (Reaping.Errno e) s l block = byErrno e l block
+reapedIdle (Reaping.Address a) s l block = byAddress s (slotOfUrb s a block) l block
 
-unfoldable pub reaped : Reaping → Setup → Ledger → List ℕ → Next
-reaped reply s l block = onBlock s l block (onIdle (l .hand) (reapedIdle s reply l block) (refused Error.WrongHand l block))
+unfoldable pub reaped : Reaping → Rule
+reaped reply = onBlock (whenIdle (reapedIdle reply))

@@ -1,20 +1,18 @@
 -- What a record shows of the ledger, the record that shows a given ledger, and what a call does to a record.
-use Prim.Native.Nat.{ℕ, zero, suc}
+use Prim.Native.Nat.{ℕ}
 use mathlib.Core.Bool.{cond}
-use mathlib.Core.List.{List, [], _∷_, _++_, map}
-use lib.ListN.{length, take, drop}
+use mathlib.Core.List.{List}
 use Rattle.error.specs.declared.Error.{Error}
-use Rattle.layout.specs.declared.Setup.{Setup}
-use Rattle.ring.specs.declared.Cell.{Cell}
 use Rattle.ring.specs.declared.Ring.{Ring}
 use Rattle.ring.specs.declared.SlotState.{SlotState}
-use Rattle.ring.specs.Parts.{queueOf}
+use Rattle.ring.specs.Counts.{table}
+use Rattle.ring.specs.Parts.{queueOf, stateOf, withQueue, withStates, withOut}
 use Rattle.stream.specs.declared.Answer.{Answer}
 use Rattle.stream.specs.declared.Stream.{Stream}
 use Rattle.stream.specs.Parts.{withState}
 use Rattle.stream.specs.Sound.{sound}
 use Rattle.ledger.specs.Ledger.{Ledger, Mark, home, out, discarded, outs, stateIn}
-use Rattle.ledger.specs.Step.{Next}
+use Rattle.ledger.specs.Step.{Rule}
 
 -- A slot's mark, by its state.
 unfoldable pub markFor : SlotState → Mark
@@ -29,26 +27,15 @@ view s =
     record {
       hand = s .hand;
       queue = queueOf (s .ring);
-      marks = map (λ (c : Cell). markFor (c .state)) (take (s .setup .slots) (s .ring .states));
+      marks = table (λ i. markFor (stateOf (s .ring) i)) (s .setup .slots);
       started = s .flags .started;
       armed = s .flags .armed;
       totals = s .stats;
     }
 
--- The states of n slots, from slot i on.
-unfoldable pub statesFrom : Ledger → ℕ → ℕ → List Cell
-statesFrom l i zero = []
-statesFrom l i (suc n) = record { state = stateIn l i } ∷ statesFrom l (suc i) n
-
 -- The ring that shows a ledger. Queue places behind the queue's end and states at and past n are as they were.
 unfoldable pub ringFor : ℕ → Ring → Ledger → Ring
-ringFor n r l =
-    record {
-      states = statesFrom l 0 n ++ drop n (r .states);
-      free = l .queue ++ drop (length (l .queue)) (r .free);
-      «free_len» = length (l .queue);
-      «in_flight» = outs (l .marks);
-    }
+ringFor n r l = withStates n (stateIn l) (withOut (withQueue r (l .queue)) (outs (l .marks)))
 
 -- The record that shows a ledger.
 unfoldable pub stored : Stream → Ledger → Stream
@@ -62,8 +49,8 @@ pub record Outcome : Type 0 where
   pub lent : List ℕ
 
 -- Every call first gives 8 exactly when the record breaks the list, and nothing differs; else its rule decides.
-unfoldable pub call : (Setup → Ledger → List ℕ → Next) → Stream → List ℕ → Outcome
-call step s lent =
-    let next = step (s .setup) (view s) lent in
+unfoldable pub call : Rule → Stream → List ℕ → Outcome
+call rule s lent =
+    let next = rule (s .setup) (view s) lent in
     cond (sound s) (record { stream = stored s (next .ledger); answer = next .answer; lent = next .lent })
     (record { stream = s; answer = Answer.Refused Error.Unsound; lent = lent })

@@ -11,8 +11,8 @@ use Rattle.stream.specs.declared.Answer.{Answer}
 use Rattle.stream.specs.declared.IsoStats.{IsoStats}
 use Rattle.stream.specs.declared.Submission.{Submission}
 use Rattle.ledger.specs.Ledger.{Ledger, out, withHand, withFlags, withTotals, marked, plus}
-use Rattle.ledger.specs.Block.{bufferBytes}
-use Rattle.ledger.specs.Step.{Next, refused, onBlock, putBack}
+use Rattle.ledger.specs.Notice.{bufferBytes}
+use Rattle.ledger.specs.Step.{Next, Rule, refused, onBlock, putBack}
 use Rattle.ledger.specs.Turn.{takeFront, silenceFront}
 
 -- The totals with one more submission of that many bytes.
@@ -42,26 +42,29 @@ submitFailed s i errno l block =
     l block
 
 -- From Sending: Idle, Done.
-unfoldable pub sent : Setup → Submission → ℕ → Ledger → List ℕ → Next
-sent s Submission.Accepted i l block =
+unfoldable pub sent : Submission → ℕ → Rule
+sent Submission.Accepted i s l block =
     record { ledger = acceptedLedger s i l block; answer = Answer.Done; lent = block }
-sent s (Submission.Errno e) i l block = submitFailed s i e l block
+sent (Submission.Errno e) i s l block = submitFailed s i e l block
 
 -- From Silent left 1: next front slot silenced with left 0; left 0 or empty queue: as turn's taking.
 unfoldable pub chained : Setup → ℕ → Ledger → List ℕ → Next
 chained s zero l block = takeFront (l .queue) l block
 chained s (suc more) l block = silenceFront s more (l .queue) l block
 
-unfoldable pub silent : Setup → Submission → ℕ → ℕ → Ledger → List ℕ → Next
-silent s Submission.Accepted i left l block = chained s left (acceptedLedger s i l block) block
-silent s (Submission.Errno e) i left l block = submitFailed s i e l block
+unfoldable pub silent : Submission → ℕ → ℕ → Rule
+silent Submission.Accepted i left s l block = chained s left (acceptedLedger s i l block) block
+silent (Submission.Errno e) i left s l block = submitFailed s i e l block
 
 -- By the hand; 9 for a wrong one.
-unfoldable pub bySending : Hand → Setup → Submission → Ledger → List ℕ → Next
-bySending Hand.Idle s reply l block = refused Error.WrongHand l block
-bySending (Hand.Held i) s reply l block = refused Error.WrongHand l block
-bySending (Hand.Sending i) s reply l block = sent s reply i l block
-bySending (Hand.Silent i left) s reply l block = silent s reply i left l block
+unfoldable pub bySending : Submission → Hand → Rule
+bySending reply Hand.Idle s l block = refused Error.WrongHand l block
+bySending reply (Hand.Held i) s l block = refused Error.WrongHand l block
+bySending reply (Hand.Sending i) s l block = sent reply i s l block
+bySending reply (Hand.Silent i left) s l block = silent reply i left s l block
 
-unfoldable pub submitted : Submission → Setup → Ledger → List ℕ → Next
-submitted reply s l block = onBlock s l block (bySending (l .hand) s reply l block)
+unfoldable pub submittedHand : Submission → Rule
+submittedHand reply s l block = bySending reply (l .hand) s l block
+
+unfoldable pub submitted : Submission → Rule
+submitted reply = onBlock (submittedHand reply)

@@ -6,12 +6,13 @@ use lib.Dec.{eqb}
 use Rattle.error.specs.declared.Error.{Error}
 use Rattle.layout.specs.declared.Setup.{Setup}
 use Rattle.layout.specs.declared.Underrun.{Underrun}
+use Rattle.layout.specs.Opening.{capacityOf}
 use Rattle.ring.specs.declared.Hand.{Hand}
 use Rattle.stream.specs.declared.Answer.{Answer}
 use Rattle.stream.specs.declared.IsoStats.{IsoStats}
 use Rattle.ledger.specs.Ledger.{Ledger, withHand, withQueue, withFlags, withTotals, outs, plus}
-use Rattle.ledger.specs.Block.{lengthsOf, capacityOf, committed, silenced}
-use Rattle.ledger.specs.Step.{Next, refused, onBlock, onIdle}
+use Rattle.ledger.specs.Slot.{lengthsOf, committed, silenced}
+use Rattle.ledger.specs.Step.{Next, Rule, refused, onBlock, whenIdle}
 
 -- Front slot taken, Held(i), answer Slot(i); empty queue: Idle, Nothing.
 unfoldable pub takeFront : List ℕ → Ledger → List ℕ → Next
@@ -19,7 +20,8 @@ takeFront [] l block = record { ledger = withHand Hand.Idle l; answer = Answer.N
 takeFront (i ∷ rest) l block =
     record { ledger = withHand (Hand.Held i) (withQueue rest l); answer = Answer.Slot i; lent = block }
 
--- Front slot taken, its capacity filled with the silence byte, full lengths set, Silent(i, left), answer Submit(i); empty queue: Idle, Nothing.
+-- Front slot taken, its capacity filled with the silence byte, full lengths set, Silent(i, left), answer Submit(i); empty queue: Idle,
+-- Nothing.
 unfoldable pub silenceFront : Setup → ℕ → List ℕ → Ledger → List ℕ → Next
 silenceFront s left [] l block = takeFront [] l block
 silenceFront s left (i ∷ rest) l block =
@@ -52,13 +54,13 @@ unfoldable pub underrun : Ledger → Ledger
 underrun l = withTotals (oneUnderrun (l .totals)) (withFlags (l .started) false l)
 
 -- By the policy: Error gives 19 with the count; FillSilence: the front slot silenced, left 1; Continue: as without an underrun.
-unfoldable pub onUnderrun : Underrun → Setup → Ledger → List ℕ → Next
+unfoldable pub onUnderrun : Underrun → Rule
 onUnderrun Underrun.Continue s l block = takeFront (l .queue) l block
 onUnderrun Underrun.FillSilence s l block = silenceFront s 1 (l .queue) l block
 onUnderrun Underrun.Error s l block = refused (Error.Underrun (l .totals .underruns)) l block
 
-unfoldable pub turnIdle : Setup → Ledger → List ℕ → Next
+unfoldable pub turnIdle : Rule
 turnIdle s l block = cond (drained l) (onUnderrun (s .underrun) s (underrun l) block) (takeFront (l .queue) l block)
 
-unfoldable pub turn : Setup → Ledger → List ℕ → Next
-turn s l block = onBlock s l block (onIdle (l .hand) (turnIdle s l block) (refused Error.WrongHand l block))
+unfoldable pub turn : Rule
+turn = onBlock (whenIdle turnIdle)

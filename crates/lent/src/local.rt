@@ -1,21 +1,16 @@
-// The ten calls by value, by way of the lent ones: each lends its record to the call and hands it back. For programs: the
-// prover's own walk covers no function that makes a `&mut Stream`.
+// The ten calls by value, by way of the lent ones: each lends its record to the call and hands it back. For
+// programs: the prover's own walk covers no function that makes a `&mut Stream`.
 use stream::Reaping;
 use stream::Reply;
 use stream::Stream;
 use stream::Submission;
 ghost use mathlib.Core.List.{[]};
-ghost use mathlib.Core.Path.{_≡_};
-ghost use Rattle.ledger.specs.Turn.{turn as turnRule};
-ghost use Rattle.ledger.specs.Commit.{commit as commitRule, commitFull, commitPackets};
-ghost use Rattle.ledger.specs.Submitted.{submitted as submittedRule};
-ghost use Rattle.ledger.specs.Reaped.{reaped as reapedRule};
-ghost use Rattle.ledger.specs.Control.{giveBack, start as startRule, stop as stopRule, finish as finishRule};
-ghost use Rattle.ledger.specs.Record.{call};
+ghost use Rattle.ledger.specs.Calls.{Call};
+ghost use Rattle.ledger.specs.Told.{Told};
 
 // What turn::turn promises.
 pub fn turn(mut s: Stream, block: &mut [u8]) -> Reply
-    ensures { λ r. ⌜ (r .answer ≡ call turnRule s (now (block .entry)) .answer) × (r .stream ≡ call turnRule s (now (block .entry)) .stream) × (now (block .exit) ≡ call turnRule s (now (block .entry)) .lent) ⌝ }
+    ensures { λ r. ⌜ Told (Call.turn (now (block .entry))) s (r .answer) (r .stream) (now (block .exit)) ⌝ }
 {
     let answer = crate::turn(&mut s, block);
     Reply { stream: s, answer }
@@ -23,7 +18,7 @@ pub fn turn(mut s: Stream, block: &mut [u8]) -> Reply
 
 // What commit::commit promises.
 pub fn commit(mut s: Stream, bytes: usize, block: &mut [u8]) -> Reply
-    ensures { λ r. ⌜ (r .answer ≡ call (commitRule bytes) s (now (block .entry)) .answer) × (r .stream ≡ call (commitRule bytes) s (now (block .entry)) .stream) × (now (block .exit) ≡ call (commitRule bytes) s (now (block .entry)) .lent) ⌝ }
+    ensures { λ r. ⌜ Told (Call.commit bytes (now (block .entry))) s (r .answer) (r .stream) (now (block .exit)) ⌝ }
 {
     let answer = crate::commit(&mut s, bytes, block);
     Reply { stream: s, answer }
@@ -31,7 +26,7 @@ pub fn commit(mut s: Stream, bytes: usize, block: &mut [u8]) -> Reply
 
 // What commit::commit_full promises.
 pub fn commit_full(mut s: Stream, block: &mut [u8]) -> Reply
-    ensures { λ r. ⌜ (r .answer ≡ call commitFull s (now (block .entry)) .answer) × (r .stream ≡ call commitFull s (now (block .entry)) .stream) × (now (block .exit) ≡ call commitFull s (now (block .entry)) .lent) ⌝ }
+    ensures { λ r. ⌜ Told (Call.commitFull (now (block .entry))) s (r .answer) (r .stream) (now (block .exit)) ⌝ }
 {
     let answer = crate::commit_full(&mut s, block);
     Reply { stream: s, answer }
@@ -39,7 +34,9 @@ pub fn commit_full(mut s: Stream, block: &mut [u8]) -> Reply
 
 // What commit::commit_packets promises.
 pub fn commit_packets(mut s: Stream, lengths: &[usize], block: &mut [u8]) -> Reply
-    ensures { λ r. ⌜ (r .answer ≡ call (commitPackets (now (lengths .entry))) s (now (block .entry)) .answer) × (r .stream ≡ call (commitPackets (now (lengths .entry))) s (now (block .entry)) .stream) × (now (block .exit) ≡ call (commitPackets (now (lengths .entry))) s (now (block .entry)) .lent) ⌝ }
+    ensures { λ r.
+        ⌜ Told (Call.commitPackets (now (lengths .entry)) (now (block .entry)))
+        s (r .answer) (r .stream) (now (block .exit)) ⌝ }
 {
     let answer = crate::commit_packets(&mut s, lengths, block);
     Reply { stream: s, answer }
@@ -47,7 +44,7 @@ pub fn commit_packets(mut s: Stream, lengths: &[usize], block: &mut [u8]) -> Rep
 
 // What submitted::submitted promises.
 pub fn submitted(mut s: Stream, reply: Submission, block: &mut [u8]) -> Reply
-    ensures { λ r. ⌜ (r .answer ≡ call (submittedRule reply) s (now (block .entry)) .answer) × (r .stream ≡ call (submittedRule reply) s (now (block .entry)) .stream) × (now (block .exit) ≡ call (submittedRule reply) s (now (block .entry)) .lent) ⌝ }
+    ensures { λ r. ⌜ Told (Call.submitted reply (now (block .entry))) s (r .answer) (r .stream) (now (block .exit)) ⌝ }
 {
     let answer = crate::submitted(&mut s, reply, block);
     Reply { stream: s, answer }
@@ -55,7 +52,7 @@ pub fn submitted(mut s: Stream, reply: Submission, block: &mut [u8]) -> Reply
 
 // What reaped::reaped promises.
 pub fn reaped(mut s: Stream, reply: Reaping, block: &[u8]) -> Reply
-    ensures { λ r. ⌜ (r .answer ≡ call (reapedRule reply) s (now (block .entry)) .answer) × (r .stream ≡ call (reapedRule reply) s (now (block .entry)) .stream) × (now (block .entry) ≡ call (reapedRule reply) s (now (block .entry)) .lent) ⌝ }
+    ensures { λ r. ⌜ Told (Call.reaped reply (now (block .entry))) s (r .answer) (r .stream) (now (block .entry)) ⌝ }
 {
     let answer = crate::reaped(&mut s, reply, block);
     Reply { stream: s, answer }
@@ -63,7 +60,7 @@ pub fn reaped(mut s: Stream, reply: Reaping, block: &[u8]) -> Reply
 
 // What control::give_back promises.
 pub fn give_back(mut s: Stream) -> Reply
-    ensures { λ r. ⌜ (r .answer ≡ call giveBack s [] .answer) × (r .stream ≡ call giveBack s [] .stream) ⌝ }
+    ensures { λ r. ⌜ Told Call.giveBack s (r .answer) (r .stream) [] ⌝ }
 {
     let answer = crate::give_back(&mut s);
     Reply { stream: s, answer }
@@ -71,7 +68,7 @@ pub fn give_back(mut s: Stream) -> Reply
 
 // What control::start promises.
 pub fn start(mut s: Stream) -> Reply
-    ensures { λ r. ⌜ (r .answer ≡ call startRule s [] .answer) × (r .stream ≡ call startRule s [] .stream) ⌝ }
+    ensures { λ r. ⌜ Told Call.start s (r .answer) (r .stream) [] ⌝ }
 {
     let answer = crate::start(&mut s);
     Reply { stream: s, answer }
@@ -79,7 +76,7 @@ pub fn start(mut s: Stream) -> Reply
 
 // What control::stop promises.
 pub fn stop(mut s: Stream, list: &mut [usize]) -> Reply
-    ensures { λ r. ⌜ (r .answer ≡ call stopRule s (now (list .entry)) .answer) × (r .stream ≡ call stopRule s (now (list .entry)) .stream) × (now (list .exit) ≡ call stopRule s (now (list .entry)) .lent) ⌝ }
+    ensures { λ r. ⌜ Told (Call.stop (now (list .entry))) s (r .answer) (r .stream) (now (list .exit)) ⌝ }
 {
     let answer = crate::stop(&mut s, list);
     Reply { stream: s, answer }
@@ -87,7 +84,7 @@ pub fn stop(mut s: Stream, list: &mut [usize]) -> Reply
 
 // What control::finish promises.
 pub fn finish(mut s: Stream) -> Reply
-    ensures { λ r. ⌜ (r .answer ≡ call finishRule s [] .answer) × (r .stream ≡ call finishRule s [] .stream) ⌝ }
+    ensures { λ r. ⌜ Told Call.finish s (r .answer) (r .stream) [] ⌝ }
 {
     let answer = crate::finish(&mut s);
     Reply { stream: s, answer }

@@ -1,5 +1,5 @@
--- The contracts of the calls by the shape of their other parameters: of the call that takes the record by value, and of the same call on a lent record. Both promise what the ledger's call gives:
--- the answer, the record, and what the lent slice holds.
+-- The contracts of the calls by the shape of their other parameters: of the call that takes the record by value, and of the same call on a lent record. Both promise what
+-- `Told` says of the call.
 -- Assumes nothing.
 use mathlib.Core.Path.{_≡_}
 use Prim.Native.Nat.{ℕ, suc}
@@ -23,20 +23,13 @@ use denote.Triple.End.{Fins, outs, lastsOf, all}
 use denote.Triple.Entry.{Args, Vals, Res, onEntry}
 use denote.Triple.Spec.{tripleOf}
 use denote.Triple.Statement.{Contract, Triple}
-use Rattle.stream.specs.declared.Answer.{Answer}
 use Rattle.stream.specs.declared.Stream.{Stream}
 use Rattle.stream.proofs.Answer as N
 use Rattle.stream.proofs.Reply as R
 use Rattle.stream.proofs.Stream as S
-use Rattle.ledger.specs.Record.{Outcome}
+use Rattle.ledger.specs.Calls.{Call}
+use Rattle.ledger.specs.Told.{Told}
 use Rattle.lent_shapes.proofs.Types.{Rest}
-
--- ---- what is promised: that the answer and the record are those of an outcome, and that a slice is
-abbrev pub Told : Outcome → Answer → Stream → Type 0
-Told o a s = (a ≡ o .answer) × (s ≡ o .stream)
-
-abbrev pub Told-slice : Outcome → Answer → Stream → List ℕ → Type 0
-Told-slice o a s l = (a ≡ o .answer) × (s ≡ o .stream) × (l ≡ o .lent)
 
 -- ---- the signatures, from the slots of the other parameters
 abbrev pub by-value : {n : ℕ} → List (Slot n) → Ended
@@ -65,43 +58,43 @@ pub record Promise : Type 2 where
   pub ensures : (κs : Lfts (ended .signature .lifetimes)) → Args (ended .signature) κs → Res (ended .signature) κs → AtExit ended κs → Type 0
 
 -- no other parameter: give_back, start, finish
-module _ (out : Stream → Outcome) where
+module _ (c : Call) where
   abbrev pub alone : Promise
-  alone = record { ended = by-value {n = 0} []; ensures = λ κs a r e. Told (out (a .0)) (r .answer) (r .stream) }
+  alone = record { ended = by-value {n = 0} []; ensures = λ κs a r e. Told c (a .0) (r .answer) (r .stream) [] }
 
   abbrev pub alone-lent : Promise
-  alone-lent = record { ended = lent {n = 0} []; ensures = λ κs a r e. Told (out (a .0 .now)) r (e .0 .now) }
+  alone-lent = record { ended = lent {n = 0} []; ensures = λ κs a r e. Told c (a .0 .now) r (e .0 .now) [] }
 
 -- a slice of numbers by `&mut`: turn, commit_full, stop
-module _ (w : Width) (out : Stream → List ℕ → Outcome) where
+module _ (w : Width) (c : List ℕ → Call) where
   abbrev pub slice : Promise
-  slice = record { ended = by-value (of-slice {n = 1} 0 tt w); ensures = λ κs a r e. Told-slice (out (a .0) (a .1 .0 .now)) (r .answer) (r .stream) (e .1 .0 .now) }
+  slice = record { ended = by-value (of-slice {n = 1} 0 tt w); ensures = λ κs a r e. Told (c (a .1 .0 .now)) (a .0) (r .answer) (r .stream) (e .1 .0 .now) }
 
   abbrev pub slice-lent : Promise
-  slice-lent = record { ended = lent (of-slice {n = 2} 1 tt w); ensures = λ κs a r e. Told-slice (out (a .0 .now) (a .1 .0 .now)) r (e .0 .now) (e .1 .0 .now) }
+  slice-lent = record { ended = lent (of-slice {n = 2} 1 tt w); ensures = λ κs a r e. Told (c (a .1 .0 .now)) (a .0 .now) r (e .0 .now) (e .1 .0 .now) }
 
-module _ (X : RattleType) (out : X .Denot → Stream → List ℕ → Outcome) where
+module _ (X : RattleType) (c : X .Denot → List ℕ → Call) where
   -- a value, and the block by `&mut`: commit, submitted
   abbrev pub value-slice : Promise
-  value-slice = record { ended = by-value (of-value-slice {n = 1} 0 tt X); ensures = λ κs a r e. Told-slice (out (a .1 .0) (a .0) (a .1 .1 .0 .now)) (r .answer) (r .stream) (e .1 .1 .0 .now) }
+  value-slice = record { ended = by-value (of-value-slice {n = 1} 0 tt X); ensures = λ κs a r e. Told (c (a .1 .0) (a .1 .1 .0 .now)) (a .0) (r .answer) (r .stream) (e .1 .1 .0 .now) }
 
   abbrev pub value-slice-lent : Promise
-  value-slice-lent = record { ended = lent (of-value-slice {n = 2} 1 tt X); ensures = λ κs a r e. Told-slice (out (a .1 .0) (a .0 .now) (a .1 .1 .0 .now)) r (e .0 .now) (e .1 .1 .0 .now) }
+  value-slice-lent = record { ended = lent (of-value-slice {n = 2} 1 tt X); ensures = λ κs a r e. Told (c (a .1 .0) (a .1 .1 .0 .now)) (a .0 .now) r (e .0 .now) (e .1 .1 .0 .now) }
 
   -- a value, and the block by `&`: reaped
   abbrev pub value-shared : Promise
-  value-shared = record { ended = by-value (of-value-shared {n = 1} 0 tt X); ensures = λ κs a r e. Told-slice (out (a .1 .0) (a .0) (a .1 .1 .0 .now)) (r .answer) (r .stream) (a .1 .1 .0 .now) }
+  value-shared = record { ended = by-value (of-value-shared {n = 1} 0 tt X); ensures = λ κs a r e. Told (c (a .1 .0) (a .1 .1 .0 .now)) (a .0) (r .answer) (r .stream) (a .1 .1 .0 .now) }
 
   abbrev pub value-shared-lent : Promise
-  value-shared-lent = record { ended = lent (of-value-shared {n = 2} 1 tt X); ensures = λ κs a r e. Told-slice (out (a .1 .0) (a .0 .now) (a .1 .1 .0 .now)) r (e .0 .now) (a .1 .1 .0 .now) }
+  value-shared-lent = record { ended = lent (of-value-shared {n = 2} 1 tt X); ensures = λ κs a r e. Told (c (a .1 .0) (a .1 .1 .0 .now)) (a .0 .now) r (e .0 .now) (a .1 .1 .0 .now) }
 
 -- a list by `&`, and the block by `&mut`: commit_packets
-module _ (out : List ℕ → Stream → List ℕ → Outcome) where
+module _ (c : List ℕ → List ℕ → Call) where
   abbrev pub list-slice : Promise
-  list-slice = record { ended = by-value (of-list-slice {n = 2} 0 tt 1 tt); ensures = λ κs a r e. Told-slice (out (a .1 .0 .now) (a .0) (a .1 .1 .0 .now)) (r .answer) (r .stream) (e .1 .1 .0 .now) }
+  list-slice = record { ended = by-value (of-list-slice {n = 2} 0 tt 1 tt); ensures = λ κs a r e. Told (c (a .1 .0 .now) (a .1 .1 .0 .now)) (a .0) (r .answer) (r .stream) (e .1 .1 .0 .now) }
 
   abbrev pub list-slice-lent : Promise
-  list-slice-lent = record { ended = lent (of-list-slice {n = 3} 1 tt 2 tt); ensures = λ κs a r e. Told-slice (out (a .1 .0 .now) (a .0 .now) (a .1 .1 .0 .now)) r (e .0 .now) (e .1 .1 .0 .now) }
+  list-slice-lent = record { ended = lent (of-list-slice {n = 3} 1 tt 2 tt); ensures = λ κs a r e. Told (c (a .1 .0 .now) (a .1 .1 .0 .now)) (a .0 .now) r (e .0 .now) (e .1 .1 .0 .now) }
 
 module _ {M : Type 1} (𝓤 : URA M) (H : Heap 𝓤) (A : Atoms 𝓤) where
   -- the contract that states a promise

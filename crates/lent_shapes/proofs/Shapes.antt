@@ -40,7 +40,7 @@ use Rattle.stream.proofs.Answer.Laws as N′
 use Rattle.stream.proofs.Reply.Laws as R′
 use Rattle.stream.proofs.Stream as S
 use Rattle.stream.proofs.Stream.Laws as S′
-use Rattle.ledger.specs.Record.{Outcome}
+use Rattle.ledger.specs.Calls.{Call}
 use Rattle.lent_shapes.proofs.Contracts as promise
 use Rattle.lent_shapes.proofs.Contracts.{Promise, stating, triple, beside, Spelled, Told-by, Walked, at-values}
 use Rattle.lent_shapes.proofs.LentWalks as lent
@@ -114,99 +114,99 @@ module _ {M : Type 1} (𝓤 : URA M) (H : Heap 𝓤) (𝓜 : Model 𝓤 H) (𝓖
       keeps P (entered 𝓤 H (triple 𝓤 H A P) C Λ f function closed (at-values 𝓤 H A P sp tl (WpFn 𝓤 H C Λ function) k))
 
   -- ---- no other parameter
-  module _ (out : Stream → Outcome) where
-    abbrev beside₀ : triple 𝓤 H A (promise.alone out) .Ghost → Rest 𝓤 H A S.the-row N.the-row
-    beside₀ = beside 𝓤 H A 0 [] (promise.alone out .ensures)
+  module _ (c : Call) where
+    abbrev beside₀ : triple 𝓤 H A (promise.alone c) .Ghost → Rest 𝓤 H A S.the-row N.the-row
+    beside₀ = beside 𝓤 H A 0 [] (promise.alone c .ensures)
 
-    pub alone-lent : Is (λ σ α ρ π. bodies.alone-lent σ α ρ π g) → Known (promise.alone out) → Keeps (promise.alone-lent out)
-    alone-lent closed known = by-walk (promise.alone-lent out) (λ σ α ρ π. bodies.alone-lent σ α ρ π g) closed (λ κs. (ptr-vals, tt)) (λ κs. (mut-tells (named 0) (κs .0) S.the-row, tt)) (λ y _.
+    pub alone-lent : Is (λ σ α ρ π. bodies.alone-lent σ α ρ π g) → Known (promise.alone c) → Keeps (promise.alone-lent c)
+    alone-lent closed known = by-walk (promise.alone-lent c) (λ σ α ρ π. bodies.alone-lent σ α ρ π g) closed (λ κs. (ptr-vals, tt)) (λ κs. (mut-tells (named 0) (κs .0) S.the-row, tt)) (λ y _.
         let (κs, qs, _, (x, _), _) = y .0 in
-        let z : triple 𝓤 H A (promise.alone out) .Ghost = ((tt, tt, tt, (x .now, tt), (val (x .now) ∷ [], tt)), tt) in
-        lent.alone W (reply 𝓤 H A W) (beside₀ z) C Λ fm g (κs .0) (qs .0) (x .ptr .0) (x .ptr .1) (x .name) (x .now) (at-key (promise.alone out) known z))
+        let z : triple 𝓤 H A (promise.alone c) .Ghost = ((tt, tt, tt, (x .now, tt), (val (x .now) ∷ [], tt)), tt) in
+        lent.alone W (reply 𝓤 H A W) (beside₀ z) C Λ fm g (κs .0) (qs .0) (x .ptr .0) (x .ptr .1) (x .name) (x .now) (at-key (promise.alone c) known z))
 
-    pub alone-local : Is (λ σ α ρ π. bodies.alone-local σ α ρ π g) → Known (promise.alone-lent out) → Keeps (promise.alone out)
-    alone-local closed known = by-walk (promise.alone out) (λ σ α ρ π. bodies.alone-local σ α ρ π g) closed (λ κs. ((λ x. val x ∷ []), tt)) (λ κs. (tells, tt)) (λ y _.
+    pub alone-local : Is (λ σ α ρ π. bodies.alone-local σ α ρ π g) → Known (promise.alone-lent c) → Keeps (promise.alone c)
+    alone-local closed known = by-walk (promise.alone c) (λ σ α ρ π. bodies.alone-local σ α ρ π g) closed (λ κs. ((λ x. val x ∷ []), tt)) (λ κs. (tells, tt)) (λ y _.
         let (_, _, _, (h, _), _) = y .0 in
         local.alone W (reply 𝓤 H A W) (beside₀ ((tt, tt, tt, (h, tt), (val h ∷ [], tt)), tt)) C Λ fm g h (λ α b γ.
-        at-key (promise.alone-lent out) known (((α ∷ [], tt), (fullShare, tt), tt, (at b γ h, tt), (vptr b 0 ∷ [], tt)), tt)))
+        at-key (promise.alone-lent c) known (((α ∷ [], tt), (fullShare, tt), tt, (at b γ h, tt), (vptr b 0 ∷ [], tt)), tt)))
 
   -- ---- a slice by `&mut`
-  module _ (w : Width) (out : Stream → List ℕ → Outcome) where
-    abbrev beside₁ : triple 𝓤 H A (promise.slice w out) .Ghost → Rest 𝓤 H A S.the-row N.the-row
-    beside₁ = beside 𝓤 H A 1 (promise.of-slice 0 tt w) (promise.slice w out .ensures)
+  module _ (w : Width) (c : List ℕ → Call) where
+    abbrev beside₁ : triple 𝓤 H A (promise.slice w c) .Ghost → Rest 𝓤 H A S.the-row N.the-row
+    beside₁ = beside 𝓤 H A 1 (promise.of-slice 0 tt w) (promise.slice w c .ensures)
 
-    pub slice-lent : Is (λ σ α ρ π. bodies.slice-lent σ α ρ π (tyInt w) g) → Known (promise.slice w out) → Keeps (promise.slice-lent w out)
-    slice-lent closed known = by-walk (promise.slice-lent w out) (λ σ α ρ π. bodies.slice-lent σ α ρ π (tyInt w) g) closed (λ κs. (ptr-vals, (slice-vals, tt)))
+    pub slice-lent : Is (λ σ α ρ π. bodies.slice-lent σ α ρ π (tyInt w) g) → Known (promise.slice w c) → Keeps (promise.slice-lent w c)
+    slice-lent closed known = by-walk (promise.slice-lent w c) (λ σ α ρ π. bodies.slice-lent σ α ρ π (tyInt w) g) closed (λ κs. (ptr-vals, (slice-vals, tt)))
         (λ κs. (mut-tells (named 0) (κs .0) S.the-row, (mut-slice-tells (named 1) (κs .1 .0) (UInt w), tt))) (λ y are.
         let (κs, qs, _, (x, (l, _)), _) = y .0 in
-        let z : triple 𝓤 H A (promise.slice w out) .Ghost = ((κs .1, qs .1, tt, (x .now, (l, tt)), (val (x .now) ∷ [], (slice-vals l, tt))), tt) in
-        lent.slice W (reply 𝓤 H A W) (beside₁ z) C Λ fm g (κs .0) (qs .0) (x .ptr .0) (x .ptr .1) (x .name) (x .now) (tyInt w) (l .ptr) (length (l .now)) (are .1 .0 .0 .1 .0) (at-key (promise.slice w out) known z))
+        let z : triple 𝓤 H A (promise.slice w c) .Ghost = ((κs .1, qs .1, tt, (x .now, (l, tt)), (val (x .now) ∷ [], (slice-vals l, tt))), tt) in
+        lent.slice W (reply 𝓤 H A W) (beside₁ z) C Λ fm g (κs .0) (qs .0) (x .ptr .0) (x .ptr .1) (x .name) (x .now) (tyInt w) (l .ptr) (length (l .now)) (are .1 .0 .0 .1 .0) (at-key (promise.slice w c) known z))
 
-    pub slice-local : Is (λ σ α ρ π. bodies.slice-local σ α ρ π (tyInt w) g) → Known (promise.slice-lent w out) → Keeps (promise.slice w out)
-    slice-local closed known = by-walk (promise.slice w out) (λ σ α ρ π. bodies.slice-local σ α ρ π (tyInt w) g) closed (λ κs. ((λ x. val x ∷ []), (slice-vals, tt)))
+    pub slice-local : Is (λ σ α ρ π. bodies.slice-local σ α ρ π (tyInt w) g) → Known (promise.slice-lent w c) → Keeps (promise.slice w c)
+    slice-local closed known = by-walk (promise.slice w c) (λ σ α ρ π. bodies.slice-local σ α ρ π (tyInt w) g) closed (λ κs. ((λ x. val x ∷ []), (slice-vals, tt)))
         (λ κs. (tells, (mut-slice-tells (named 0) (κs .0) (UInt w), tt))) (λ y are.
         let (κs, qs, _, (h, (l, _)), _) = y .0 in
         local.slice W (reply 𝓤 H A W) (beside₁ ((κs, qs, tt, (h, (l, tt)), (val h ∷ [], (slice-vals l, tt))), tt)) C Λ fm g h (tyInt w) (l .ptr) (length (l .now)) (are .1 .0 .0 .1 .0) (λ α b γ.
-        at-key (promise.slice-lent w out) known (((α ∷ [], κs), (fullShare, qs), tt, (at b γ h, (l, tt)), (vptr b 0 ∷ [], (slice-vals l, tt))), tt)))
+        at-key (promise.slice-lent w c) known (((α ∷ [], κs), (fullShare, qs), tt, (at b γ h, (l, tt)), (vptr b 0 ∷ [], (slice-vals l, tt))), tt)))
 
-  module _ (X : RattleType) (d : Datum 𝓤 H A X) (out : X .Denot → Stream → List ℕ → Outcome) where
+  module _ (X : RattleType) (d : Datum 𝓤 H A X) (c : X .Denot → List ℕ → Call) where
     -- ---- a value, and the block by `&mut`
-    abbrev beside₂ : triple 𝓤 H A (promise.value-slice X out) .Ghost → Rest 𝓤 H A S.the-row N.the-row
-    beside₂ = beside 𝓤 H A 1 (promise.of-value-slice 0 tt X) (promise.value-slice X out .ensures)
+    abbrev beside₂ : triple 𝓤 H A (promise.value-slice X c) .Ghost → Rest 𝓤 H A S.the-row N.the-row
+    beside₂ = beside 𝓤 H A 1 (promise.of-value-slice 0 tt X) (promise.value-slice X c .ensures)
 
-    pub value-slice-lent : Is (λ σ α ρ π. bodies.value-slice-lent σ α ρ π 2 (named 1) (d .mir) (tyInt w8) g) → Known (promise.value-slice X out) → Keeps (promise.value-slice-lent X out)
-    value-slice-lent closed known = by-walk (promise.value-slice-lent X out) (λ σ α ρ π. bodies.value-slice-lent σ α ρ π 2 (named 1) (d .mir) (tyInt w8) g) closed
+    pub value-slice-lent : Is (λ σ α ρ π. bodies.value-slice-lent σ α ρ π 2 (named 1) (d .mir) (tyInt w8) g) → Known (promise.value-slice X c) → Keeps (promise.value-slice-lent X c)
+    value-slice-lent closed known = by-walk (promise.value-slice-lent X c) (λ σ α ρ π. bodies.value-slice-lent σ α ρ π 2 (named 1) (d .mir) (tyInt w8) g) closed
         (λ κs. (ptr-vals, ((λ v. d .val v ∷ []), (slice-vals, tt)))) (λ κs. (mut-tells (named 0) (κs .0) S.the-row, (d .tells, (mut-slice-tells (named 1) (κs .1 .0) u8, tt)))) (λ y are.
         let (κs, qs, _, (x, (v, (l, _))), _) = y .0 in
-        let z : triple 𝓤 H A (promise.value-slice X out) .Ghost = ((κs .1, qs .1, tt, (x .now, (v, (l, tt))), (val (x .now) ∷ [], (d .val v ∷ [], (slice-vals l, tt)))), tt) in
+        let z : triple 𝓤 H A (promise.value-slice X c) .Ghost = ((κs .1, qs .1, tt, (x .now, (v, (l, tt))), (val (x .now) ∷ [], (d .val v ∷ [], (slice-vals l, tt)))), tt) in
         lent.value-slice W (reply 𝓤 H A W) (beside₂ z) C Λ fm g (κs .0) (qs .0) (x .ptr .0) (x .ptr .1) (x .name) (x .now) (tyInt w8) (l .ptr) (length (l .now)) (are .1 .1 .0 .0 .1 .0)
-        2 (named 1) (d .mir) (d .val v) (d .fits v _ (are .1 .0)) (at-key (promise.value-slice X out) known z))
+        2 (named 1) (d .mir) (d .val v) (d .fits v _ (are .1 .0)) (at-key (promise.value-slice X c) known z))
 
-    pub value-slice-local : Is (λ σ α ρ π. bodies.value-slice-local σ α ρ π 1 (named 0) (d .mir) (tyInt w8) g) → Known (promise.value-slice-lent X out) → Keeps (promise.value-slice X out)
-    value-slice-local closed known = by-walk (promise.value-slice X out) (λ σ α ρ π. bodies.value-slice-local σ α ρ π 1 (named 0) (d .mir) (tyInt w8) g) closed
+    pub value-slice-local : Is (λ σ α ρ π. bodies.value-slice-local σ α ρ π 1 (named 0) (d .mir) (tyInt w8) g) → Known (promise.value-slice-lent X c) → Keeps (promise.value-slice X c)
+    value-slice-local closed known = by-walk (promise.value-slice X c) (λ σ α ρ π. bodies.value-slice-local σ α ρ π 1 (named 0) (d .mir) (tyInt w8) g) closed
         (λ κs. ((λ x. val x ∷ []), ((λ v. d .val v ∷ []), (slice-vals, tt)))) (λ κs. (tells, (d .tells, (mut-slice-tells (named 0) (κs .0) u8, tt)))) (λ y are.
         let (κs, qs, _, (h, (v, (l, _))), _) = y .0 in
         local.value-slice W (reply 𝓤 H A W) (beside₂ ((κs, qs, tt, (h, (v, (l, tt))), (val h ∷ [], (d .val v ∷ [], (slice-vals l, tt)))), tt)) C Λ fm g h (tyInt w8) (l .ptr) (length (l .now)) (are .1 .1 .0 .0 .1 .0)
         1 (named 0) (d .mir) (d .val v) (d .fits v _ (are .1 .0)) (λ α b γ.
-        at-key (promise.value-slice-lent X out) known (((α ∷ [], κs), (fullShare, qs), tt, (at b γ h, (v, (l, tt))), (vptr b 0 ∷ [], (d .val v ∷ [], (slice-vals l, tt)))), tt)))
+        at-key (promise.value-slice-lent X c) known (((α ∷ [], κs), (fullShare, qs), tt, (at b γ h, (v, (l, tt))), (vptr b 0 ∷ [], (d .val v ∷ [], (slice-vals l, tt)))), tt)))
 
     -- ---- a value, and the block by `&`
-    abbrev beside₃ : triple 𝓤 H A (promise.value-shared X out) .Ghost → Rest 𝓤 H A S.the-row N.the-row
-    beside₃ = beside 𝓤 H A 1 (promise.of-value-shared 0 tt X) (promise.value-shared X out .ensures)
+    abbrev beside₃ : triple 𝓤 H A (promise.value-shared X c) .Ghost → Rest 𝓤 H A S.the-row N.the-row
+    beside₃ = beside 𝓤 H A 1 (promise.of-value-shared 0 tt X) (promise.value-shared X c .ensures)
 
-    pub value-shared-lent : Is (λ σ α ρ π. bodies.two-values-lent σ α ρ π (d .mir) (shared 1 w8) g) → Known (promise.value-shared X out) → Keeps (promise.value-shared-lent X out)
-    value-shared-lent closed known = by-walk (promise.value-shared-lent X out) (λ σ α ρ π. bodies.two-values-lent σ α ρ π (d .mir) (shared 1 w8) g) closed
+    pub value-shared-lent : Is (λ σ α ρ π. bodies.two-values-lent σ α ρ π (d .mir) (shared 1 w8) g) → Known (promise.value-shared X c) → Keeps (promise.value-shared-lent X c)
+    value-shared-lent closed known = by-walk (promise.value-shared-lent X c) (λ σ α ρ π. bodies.two-values-lent σ α ρ π (d .mir) (shared 1 w8) g) closed
         (λ κs. (ptr-vals, ((λ v. d .val v ∷ []), (slice-vals, tt)))) (λ κs. (mut-tells (named 0) (κs .0) S.the-row, (d .tells, (shr-slice-tells (named 1) (κs .1 .0) u8, tt)))) (λ y are.
         let (κs, qs, _, (x, (v, (l, _))), _) = y .0 in
-        let z : triple 𝓤 H A (promise.value-shared X out) .Ghost = ((κs .1, qs .1, tt, (x .now, (v, (l, tt))), (val (x .now) ∷ [], (d .val v ∷ [], (slice-vals l, tt)))), tt) in
+        let z : triple 𝓤 H A (promise.value-shared X c) .Ghost = ((κs .1, qs .1, tt, (x .now, (v, (l, tt))), (val (x .now) ∷ [], (d .val v ∷ [], (slice-vals l, tt)))), tt) in
         lent.two-values W (reply 𝓤 H A W) (beside₃ z) C Λ fm g (κs .0) (qs .0) (x .ptr .0) (x .ptr .1) (x .name) (x .now) (d .mir) (shared 1 w8) (d .val v) (only (slice-vals l)) (d .fits v _ (are .1 .0))
-        (fits-shared 1 w8 l (are .1 .1 .0 .0 .1 .0)) (at-key (promise.value-shared X out) known z))
+        (fits-shared 1 w8 l (are .1 .1 .0 .0 .1 .0)) (at-key (promise.value-shared X c) known z))
 
-    pub value-shared-local : Is (λ σ α ρ π. bodies.two-values-local σ α ρ π (d .mir) (shared 0 w8) g) → Known (promise.value-shared-lent X out) → Keeps (promise.value-shared X out)
-    value-shared-local closed known = by-walk (promise.value-shared X out) (λ σ α ρ π. bodies.two-values-local σ α ρ π (d .mir) (shared 0 w8) g) closed
+    pub value-shared-local : Is (λ σ α ρ π. bodies.two-values-local σ α ρ π (d .mir) (shared 0 w8) g) → Known (promise.value-shared-lent X c) → Keeps (promise.value-shared X c)
+    value-shared-local closed known = by-walk (promise.value-shared X c) (λ σ α ρ π. bodies.two-values-local σ α ρ π (d .mir) (shared 0 w8) g) closed
         (λ κs. ((λ x. val x ∷ []), ((λ v. d .val v ∷ []), (slice-vals, tt)))) (λ κs. (tells, (d .tells, (shr-slice-tells (named 0) (κs .0) u8, tt)))) (λ y are.
         let (κs, qs, _, (h, (v, (l, _))), _) = y .0 in
         local.two-values W (reply 𝓤 H A W) (beside₃ ((κs, qs, tt, (h, (v, (l, tt))), (val h ∷ [], (d .val v ∷ [], (slice-vals l, tt)))), tt)) C Λ fm g h (d .mir) (shared 0 w8) (d .val v) (only (slice-vals l)) (d .fits v _ (are .1 .0))
         (fits-shared 0 w8 l (are .1 .1 .0 .0 .1 .0)) (λ α b γ.
-        at-key (promise.value-shared-lent X out) known (((α ∷ [], κs), (fullShare, qs), tt, (at b γ h, (v, (l, tt))), (vptr b 0 ∷ [], (d .val v ∷ [], (slice-vals l, tt)))), tt)))
+        at-key (promise.value-shared-lent X c) known (((α ∷ [], κs), (fullShare, qs), tt, (at b γ h, (v, (l, tt))), (vptr b 0 ∷ [], (d .val v ∷ [], (slice-vals l, tt)))), tt)))
 
   -- ---- a list by `&`, and the block by `&mut`
-  module _ (out : List ℕ → Stream → List ℕ → Outcome) where
-    abbrev beside₄ : triple 𝓤 H A (promise.list-slice out) .Ghost → Rest 𝓤 H A S.the-row N.the-row
-    beside₄ = beside 𝓤 H A 2 (promise.of-list-slice 0 tt 1 tt) (promise.list-slice out .ensures)
+  module _ (c : List ℕ → List ℕ → Call) where
+    abbrev beside₄ : triple 𝓤 H A (promise.list-slice c) .Ghost → Rest 𝓤 H A S.the-row N.the-row
+    beside₄ = beside 𝓤 H A 2 (promise.of-list-slice 0 tt 1 tt) (promise.list-slice c .ensures)
 
-    pub list-slice-lent : Is (λ σ α ρ π. bodies.value-slice-lent σ α ρ π 3 (named 2) (shared 1 w64) (tyInt w8) g) → Known (promise.list-slice out) → Keeps (promise.list-slice-lent out)
-    list-slice-lent closed known = by-walk (promise.list-slice-lent out) (λ σ α ρ π. bodies.value-slice-lent σ α ρ π 3 (named 2) (shared 1 w64) (tyInt w8) g) closed
+    pub list-slice-lent : Is (λ σ α ρ π. bodies.value-slice-lent σ α ρ π 3 (named 2) (shared 1 w64) (tyInt w8) g) → Known (promise.list-slice c) → Keeps (promise.list-slice-lent c)
+    list-slice-lent closed known = by-walk (promise.list-slice-lent c) (λ σ α ρ π. bodies.value-slice-lent σ α ρ π 3 (named 2) (shared 1 w64) (tyInt w8) g) closed
         (λ κs. (ptr-vals, (slice-vals, (slice-vals, tt)))) (λ κs. (mut-tells (named 0) (κs .0) S.the-row, (shr-slice-tells (named 1) (κs .1 .0) usize, (mut-slice-tells (named 2) (κs .1 .1 .0) u8, tt)))) (λ y are.
         let (κs, qs, _, (x, (k, (l, _))), _) = y .0 in
-        let z : triple 𝓤 H A (promise.list-slice out) .Ghost = ((κs .1, qs .1, tt, (x .now, (k, (l, tt))), (val (x .now) ∷ [], (slice-vals k, (slice-vals l, tt)))), tt) in
+        let z : triple 𝓤 H A (promise.list-slice c) .Ghost = ((κs .1, qs .1, tt, (x .now, (k, (l, tt))), (val (x .now) ∷ [], (slice-vals k, (slice-vals l, tt)))), tt) in
         lent.value-slice W (reply 𝓤 H A W) (beside₄ z) C Λ fm g (κs .0) (qs .0) (x .ptr .0) (x .ptr .1) (x .name) (x .now) (tyInt w8) (l .ptr) (length (l .now)) (are .1 .1 .0 .0 .1 .0)
-        3 (named 2) (shared 1 w64) (only (slice-vals k)) (fits-shared 1 w64 k (are .1 .0 .0 .1 .0)) (at-key (promise.list-slice out) known z))
+        3 (named 2) (shared 1 w64) (only (slice-vals k)) (fits-shared 1 w64 k (are .1 .0 .0 .1 .0)) (at-key (promise.list-slice c) known z))
 
-    pub list-slice-local : Is (λ σ α ρ π. bodies.value-slice-local σ α ρ π 2 (named 1) (shared 0 w64) (tyInt w8) g) → Known (promise.list-slice-lent out) → Keeps (promise.list-slice out)
-    list-slice-local closed known = by-walk (promise.list-slice out) (λ σ α ρ π. bodies.value-slice-local σ α ρ π 2 (named 1) (shared 0 w64) (tyInt w8) g) closed
+    pub list-slice-local : Is (λ σ α ρ π. bodies.value-slice-local σ α ρ π 2 (named 1) (shared 0 w64) (tyInt w8) g) → Known (promise.list-slice-lent c) → Keeps (promise.list-slice c)
+    list-slice-local closed known = by-walk (promise.list-slice c) (λ σ α ρ π. bodies.value-slice-local σ α ρ π 2 (named 1) (shared 0 w64) (tyInt w8) g) closed
         (λ κs. ((λ x. val x ∷ []), (slice-vals, (slice-vals, tt)))) (λ κs. (tells, (shr-slice-tells (named 0) (κs .0) usize, (mut-slice-tells (named 1) (κs .1 .0) u8, tt)))) (λ y are.
         let (κs, qs, _, (h, (k, (l, _))), _) = y .0 in
         local.value-slice W (reply 𝓤 H A W) (beside₄ ((κs, qs, tt, (h, (k, (l, tt))), (val h ∷ [], (slice-vals k, (slice-vals l, tt)))), tt)) C Λ fm g h (tyInt w8) (l .ptr) (length (l .now)) (are .1 .1 .0 .0 .1 .0)
         2 (named 1) (shared 0 w64) (only (slice-vals k)) (fits-shared 0 w64 k (are .1 .0 .0 .1 .0)) (λ α b γ.
-        at-key (promise.list-slice-lent out) known (((α ∷ [], κs), (fullShare, qs), tt, (at b γ h, (k, (l, tt))), (vptr b 0 ∷ [], (slice-vals k, (slice-vals l, tt)))), tt)))
+        at-key (promise.list-slice-lent c) known (((α ∷ [], κs), (fullShare, qs), tt, (at b γ h, (k, (l, tt))), (vptr b 0 ∷ [], (slice-vals k, (slice-vals l, tt)))), tt)))

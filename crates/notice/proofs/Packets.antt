@@ -9,7 +9,7 @@ use lib.ListN.{length}
 use Rattle.sys.specs.Bytes.{part, field}
 use Rattle.sys.specs.Descriptor.{lengthAt, descActualLengthAt, descStatusAt, descSize, descAt}
 use Rattle.sys.proofs.Fields.{field-part}
-use Rattle.ledger.specs.Block.{packetsAt, requested, short}
+use Rattle.ledger.specs.Notice.{packetsAt, requested, short}
 
 -- p packets of which k are done: the next one, then the others
 pub packets-next : (p k : ℕ) (l : List ℕ) → k < p

@@ -1,20 +1,18 @@
-// What submitted and reaped read from the block. A call has tested the setup, the block's length and, where it names a slot, its
-// number before it asks.
+// What submitted and reaped read from the block, each header through a view of it. A call has tested the setup, the
+// block's length and, where it names a slot, its number before it asks.
 use layout::Setup;
 use layout::masked;
 use ring::Found;
 use stream::Completion;
 use sys::IsoPacketDesc;
-use sys::Urb;
 use sys::field::non_negative;
 ghost use mathlib.Core.Path.{_≡_};
 ghost use mathlib.Core.Bool.{true};
 ghost use Prim.Native.Nat.{_-_, _*_, _≤_, _<_};
 ghost use lib.ListN.{length};
 ghost use Rattle.sys.specs.Descriptor.{descSize};
-ghost use Rattle.layout.specs.Opening.{accepted, totalOf};
-ghost use Rattle.ledger.specs.Block.{bufferBytes, packetsAt, completionOf};
-ghost use Rattle.ledger.specs.Reaped.{slotAt, slotOfUrb};
+ghost use Rattle.layout.specs.Opening.{admissible, totalOf};
+ghost use Rattle.ledger.specs.Notice.{bufferBytes, packetsAt, completionOf, slotAt, slotOfUrb};
 ghost use Rattle.notice.specs.Sums.{sumsOf};
 
 // The two sums over a slot's packets.
@@ -25,11 +23,12 @@ struct Sums {
 
 // Internal: slot i's buffer length, or 0 where it is negative.
 pub fn buffer_bytes(setup: Setup, block: &[u8], i: usize) -> u64
-    requires { ⌜ (accepted setup ≡ true) × (i < setup .slots) × (length (now block) ≡ totalOf setup) ⌝ }
+    requires { ⌜ (admissible setup ≡ true) × (i < setup .slots) × (length (now block) ≡ totalOf setup) ⌝ }
     ensures { λ r. ⌜ r ≡ bufferBytes setup i (now (block .entry)) ⌝ }
 {
     let at = setup.places(i);
-    non_negative(Urb::buffer_length_at(block, at.header))
+    let header = urb_view::fields(block, at.header);
+    non_negative(header.buffer_length)
 }
 
 // What `actual` lacks of `length`.
@@ -59,26 +58,28 @@ fn packet_sums(descs: &[u8], packets: usize) -> Sums
 
 // Internal: slot i's completion. The sums are worked out on the part that holds its descriptors.
 pub fn complete(setup: Setup, block: &[u8], i: usize, was_discarded: bool) -> Completion
-    requires { ⌜ (accepted setup ≡ true) × (i < setup .slots) × (length (now block) ≡ totalOf setup) ⌝ }
+    requires { ⌜ (admissible setup ≡ true) × (i < setup .slots) × (length (now block) ≡ totalOf setup) ⌝ }
     ensures { λ r. ⌜ r ≡ completionOf setup i «was_discarded» (now (block .entry)) ⌝ }
 {
     let at = setup.places(i);
     let descs = at.descs;
     let end = descs + IsoPacketDesc::SIZE * at.packets;
     let sums = packet_sums(&block[descs..end], at.packets);
+    let header = urb_view::fields(block, at.header);
     Completion {
-        status: Urb::status_at(block, at.header),
-        actual_bytes: non_negative(Urb::actual_length_at(block, at.header)),
+        status: header.status,
+        actual_bytes: non_negative(header.actual_length),
         requested_bytes: sums.requested,
         short_bytes: sums.short,
-        packet_errors: non_negative(Urb::error_count_at(block, at.header)),
+        packet_errors: non_negative(header.error_count),
         was_discarded,
     }
 }
 
-// Internal: the slot whose header stands at an offset, by the offset and by the cookie.
+// Internal: the slot whose header stands at an offset, by the offset and by the cookie. The cookie is the slot's
+// number, which no tag can alter: an address that only happens to fit is another stream's.
 fn slot_at(setup: Setup, block: &[u8], offset: usize) -> Found
-    requires { ⌜ (accepted setup ≡ true) × (length (now block) ≡ totalOf setup) ⌝ }
+    requires { ⌜ (admissible setup ≡ true) × (length (now block) ≡ totalOf setup) ⌝ }
     ensures { λ r. ⌜ r ≡ slotAt setup offset (now (block .entry)) ⌝ }
 {
     let layout = setup.layout_of();
@@ -90,8 +91,8 @@ fn slot_at(setup: Setup, block: &[u8], offset: usize) -> Found
         return Found::Nothing;
     }
     let i = offset / stride;
-    let cookie = Urb::usercontext_at(block, i * stride);
-    if cookie != i as u64 {
+    let header = urb_view::fields(block, i * stride);
+    if header.usercontext != i as u64 {
         return Found::Nothing;
     }
     Found::Slot(i)
@@ -99,7 +100,7 @@ fn slot_at(setup: Setup, block: &[u8], offset: usize) -> Found
 
 // Internal: the slot that an address from the kernel names.
 pub fn slot_of_urb(setup: Setup, block: &[u8], address: usize) -> Found
-    requires { ⌜ (accepted setup ≡ true) × (length (now block) ≡ totalOf setup) ⌝ }
+    requires { ⌜ (admissible setup ≡ true) × (length (now block) ≡ totalOf setup) ⌝ }
     ensures { λ r. ⌜ r ≡ slotOfUrb setup address (now (block .entry)) ⌝ }
 {
     let base = masked(setup.tagged, setup.base);

@@ -11,10 +11,10 @@ use lib.ListN.{length, replicate, length-replicate}
 use mir.Syntax.{w8}
 use mir.Val.{Fits}
 use Rattle.layout.specs.declared.Setup.{Setup}
-use Rattle.layout.specs.Opening.{totalOf, accepted}
+use Rattle.layout.specs.Opening.{totalOf, admissible}
 use Rattle.layout.specs.Places.{placesOf}
 use Rattle.layout.specs.Layout.{largest}
-use Rattle.layout.proofs.Acceptance.{accepts}
+use Rattle.layout.proofs.Admission.{admits}
 use Rattle.layout.proofs.Slots.{placed, headers-ordered}
 use Rattle.ring.proofs.Counts.{last-or-below}
 use Rattle.sys.specs.Bytes.{part, store}
@@ -38,12 +38,12 @@ unfolding openedBlock
 length-opened s = length-headers s (s .slots) (replicate (totalOf s) 0) ∙ length-replicate (totalOf s) 0
 
 -- each header is read back
-module _ (s : Setup) (a : accepted s ≡ true) (endpoint : Fits w8 (s .endpoint)) (base : s .base ≤ largest) where
+module _ (s : Setup) (a : admissible s ≡ true) (endpoint : Fits w8 (s .endpoint)) (base : s .base ≤ largest) where
   header-fits : (i : ℕ) → i < s .slots → HeaderFits (openedHeader s i)
   unfolding openedHeader placesOf
   header-fits i h =
-      let p = placed s i (accepts s a) base h in
-      let few = accepts s a .limits .slots in
+      let p = placed s i (admits s a) base h in
+      let few = admits s a .limits .slots in
       record {
         typ = omega arith;
         endpoint = endpoint;
@@ -65,7 +65,7 @@ module _ (s : Setup) (a : accepted s ≡ true) (endpoint : Fits w8 (s .endpoint)
   stored-header (suc k) block e h i l =
       let room : length (withHeaders s k block) ≡ totalOf s = length-headers s k block ∙ e in
       let long : length (headerBytes (openedHeader s k)) ≡ headerSize = length-headerBytes (openedHeader s k) in
-      let p = placed s k (accepts s a) base h in
+      let p = placed s k (admits s a) base h in
       ⊎-elim
       (λ (same : i ≡ k). rw same (header-back (placesOf s k .header) (openedHeader s k) (withHeaders s k block) (omega arith) (header-fits k h)))
       (λ (below : i < k). header-other (placesOf s i .header) (placesOf s k .header) (headerBytes (openedHeader s k)) (withHeaders s k block)

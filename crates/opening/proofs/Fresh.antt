@@ -4,39 +4,24 @@ use Prim.Native.Nat.{ℕ, zero, suc, _-_, _≤_}
 use native.Mathlib.Omega.{arith}
 use mathlib.Core.Path.{_≡_, refl, sym, ap}
 use mathlib.Core.Bool.{Bool, true, false}
-use lib.ListN.{getD, replicate, length-append, length-replicate}
+use lib.ListN.{replicate, length-append, length-replicate}
 use lib.Seq.{take-at}
 use Rattle.layout.specs.declared.Setup.{Setup}
 use Rattle.layout.specs.Tests.{first, passed}
 use Rattle.layout.specs.Layout.{sizes}
-use Rattle.layout.specs.Opening.{limits, accepted}
-use Rattle.layout.proofs.Acceptance.{accepts}
-use Rattle.ring.specs.declared.Cell.{Cell}
+use Rattle.layout.specs.Opening.{limits, admissible}
+use Rattle.layout.proofs.Admission.{admits}
 use Rattle.ring.specs.declared.Hand.{Hand}
-use Rattle.ring.specs.declared.SlotState.{SlotState}
 use Rattle.ring.specs.Slots.{isFree, isFilling, isOut, one, holds, handWithin}
-use Rattle.ring.specs.Parts.{queueOf, stateOf}
-use Rattle.ring.specs.Counts.{howMany}
+use Rattle.ring.specs.Parts.{queueOf, stateOf, freeRing}
+use Rattle.ring.specs.Counts.{slotNumbers, howMany}
 use Rattle.ring.proofs.Sound.{Sound, facts-sound}
+use Rattle.ring.proofs.Numbers.{length-numbers, numbers-once, numbers-below}
+use Rattle.ring.proofs.States.{all-free}
 use Rattle.ring.proofs.Wide.{Wide}
 use Rattle.stream.specs.Sound.{sound}
-use Rattle.stream.specs.Opened.{slotNumbers, freeRing, openedStream, noSetup, noStream}
-use Rattle.opening.proofs.Queue.{length-numbers, numbers-once, numbers-below}
-
--- a Free slot's place in the table of states
-freeCell : Cell
-freeCell = record { state = SlotState.Free }
-
--- a table of those shows Free at every place, and past its end
-states-free : (m i : ℕ) → getD (replicate m freeCell) i freeCell .state ≡ SlotState.Free
-unfolding freeCell
-states-free zero i = refl
-states-free (suc m) zero = refl
-states-free (suc m) (suc i) = states-free m i
-
-pub all-free : (n i : ℕ) → stateOf (freeRing n) i ≡ SlotState.Free
-unfolding stateOf freeRing freeCell
-all-free n i = states-free 256 i
+use Rattle.layout.specs.Numbers.{setupFrom}
+use Rattle.opening.specs.Opened.{openedStream, noSetup, noStream}
 
 -- the queue is 0..n-1
 pub queue-all : (n : ℕ) → queueOf (freeRing n) ≡ slotNumbers n
@@ -62,26 +47,26 @@ fresh-facts n h =
       held = λ i l. ap isFilling (all-free n i);
     }
 
-pub opened-sound : (s : Setup) → accepted s ≡ true → sound (openedStream s) ≡ true
+pub opened-sound : (s : Setup) → admissible s ≡ true → sound (openedStream s) ≡ true
 unfolding sound openedStream
 opened-sound s a =
-    rw (a, facts-sound (s .slots) (freeRing (s .slots)) Hand.Idle (fresh-facts (s .slots) (accepts s a .limits .slots)))
+    rw (a, facts-sound (s .slots) (freeRing (s .slots)) Hand.Idle (fresh-facts (s .slots) (admits s a .limits .slots)))
 
 pub free-wide : (n : ℕ) → n ≤ 256 → Wide (freeRing n)
 unfolding freeRing
 free-wide n h =
     record {
-      table = refl;
+      states = refl;
       places = rw (length-append, length-numbers n, length-replicate) (omega arith);
     }
 
-pub opened-wide : (s : Setup) → accepted s ≡ true → Wide (openedStream s .ring)
+pub opened-wide : (s : Setup) → admissible s ≡ true → Wide (openedStream s .ring)
 unfolding openedStream
-opened-wide s a = free-wide (s .slots) (accepts s a .limits .slots)
+opened-wide s a = free-wide (s .slots) (admits s a .limits .slots)
 
 -- opening refuses the values of the record of no slots, so every call gives 8 on that record
-pub no-setup-refused : accepted noSetup ≡ false
-unfolding noSetup accepted limits sizes first passed
+pub no-setup-refused : admissible noSetup ≡ false
+unfolding noSetup setupFrom admissible limits sizes first passed
 no-setup-refused = refl
 
 pub no-stream-unsound : sound noStream ≡ false

@@ -1,1 +1,3 @@
+pub mod Refusals
+pub mod Opened
 pub mod Open

@@ -1,11 +1,11 @@
 // Opening a ring: the record of a fresh stream, and its block with the headers of all slots.
-use layout::Opens;
+use error::Error;
+use layout::Laid;
 use layout::Setup;
+use layout::Tested;
 use layout::Underrun;
-use ring::Cell;
 use ring::Hand;
 use ring::Ring;
-use ring::SlotState;
 use stream::Answer;
 use stream::Flags;
 use stream::IsoStats;
@@ -14,40 +14,30 @@ use stream::Stream;
 use sys::Urb;
 ghost use mathlib.Core.Path.{_≡_};
 ghost use mathlib.Core.Bool.{true};
-ghost use mathlib.Core.List.{_++_};
-ghost use Prim.Native.Nat.{_-_, _≤_, _<_};
+ghost use Prim.Native.Nat.{_≤_, _<_};
 ghost use lib.ListN.{length, replicate};
-ghost use Rattle.layout.specs.Opening.{totalOf, accepted};
-ghost use Rattle.ring.specs.declared.SlotState.{SlotState};
-ghost use Rattle.stream.specs.Opened.{slotNumbers, openedStream, noSetup, noStream};
+ghost use Rattle.layout.specs.Opening.{totalOf, admissible};
+ghost use Rattle.opening.specs.Refusals.{opens as opensFor};
+ghost use Rattle.opening.specs.Opened.{openedStream, noSetup, noStream};
 ghost use Rattle.opening.specs.Open.{openedHeader, openedBlock, openOutcome};
 
-// Internal: every slot Free.
-fn all_free() -> [Cell; 256]
-    ensures { λ r. ⌜ r ≡ replicate 256 (record { state = SlotState.Free }) ⌝ }
+// What opening answers for a block of that length: its layout, or the first of refusals 1, 2, 3, 5, 6, 7.
+pub fn opens(setup: Setup, block_len: usize) -> Laid
+    ensures { λ r. ⌜ r ≡ opensFor setup «block_len» ⌝ }
 {
-    [Cell {
-        state: SlotState::Free,
-    }; 256]
-}
-
-// Internal: an empty queue's places.
-fn no_slots() -> [u8; 256]
-    ensures { λ r. ⌜ r ≡ replicate 256 0 ⌝ }
-{
-    [0; 256]
-}
-
-// Internal: the queue 0..n-1 in its places.
-fn slot_numbers(n: usize) -> [u8; 256]
-    requires { ⌜ n ≤ 256 ⌝ }
-    ensures { λ r. ⌜ r ≡ slotNumbers n ++ replicate (256 - n) 0 ⌝ }
-{
-    let mut free = no_slots();
-    for i in 0..n {
-        free[i] = i as u8;
+    match setup.test_limits() {
+        Tested::Refused(e) => Laid::Refused(e),
+        Tested::Passed => {
+            let layout = setup.layout_of();
+            if block_len != layout.total_bytes {
+                return Laid::Refused(Error::BlockLength);
+            }
+            if !setup.admissible() {
+                return Laid::Refused(Error::BaseAddress);
+            }
+            Laid::Layout(layout)
+        }
     }
-    free
 }
 
 // Internal: the record of a ring that was just opened with these values.
@@ -55,22 +45,15 @@ fn opened(setup: Setup) -> Stream
     requires { ⌜ setup .slots ≤ 256 ⌝ }
     ensures { λ r. ⌜ r ≡ openedStream setup ⌝ }
 {
-    let states = all_free();
-    let free = slot_numbers(setup.slots);
-    Stream {
+    Stream::new(
         setup,
-        ring: Ring {
-            states,
-            free,
-            free_len: setup.slots,
-            in_flight: 0,
-        },
-        hand: Hand::Idle,
-        flags: Flags {
+        Ring::new(setup.slots),
+        Hand::Idle,
+        Flags {
             started: false,
             armed: false,
         },
-        stats: IsoStats {
+        IsoStats {
             urbs_submitted: 0,
             urbs_completed: 0,
             bytes_submitted: 0,
@@ -80,7 +63,7 @@ fn opened(setup: Setup) -> Stream
             urb_errors: 0,
             underruns: 0,
         },
-    }
+    )
 }
 
 // Internal: the values of the record that comes with a refusal.
@@ -117,7 +100,7 @@ fn clear(block: &mut [u8])
 
 // Internal: the header of slot i.
 fn header_of(setup: Setup, i: usize) -> Urb
-    requires { ⌜ (accepted setup ≡ true) × (i < setup .slots) ⌝ }
+    requires { ⌜ (admissible setup ≡ true) × (i < setup .slots) ⌝ }
     ensures { λ r. ⌜ r ≡ openedHeader setup i ⌝ }
 {
     let places = setup.places(i);
@@ -132,7 +115,7 @@ fn header_of(setup: Setup, i: usize) -> Urb
 
 // Internal: clears the block, then writes each slot's header.
 fn init_headers(setup: Setup, block: &mut [u8])
-    requires { ⌜ (accepted setup ≡ true) × (length (now block) ≡ totalOf setup) ⌝ }
+    requires { ⌜ (admissible setup ≡ true) × (length (now block) ≡ totalOf setup) ⌝ }
     ensures { λ _. ⌜ now (block .exit) ≡ openedBlock setup ⌝ }
 {
     clear(block);
@@ -150,12 +133,12 @@ pub fn open(setup: Setup, block: &mut [u8]) -> Reply
         × (r .stream ≡ openOutcome setup (now (block .entry)) .stream)
         × (now (block .exit) ≡ openOutcome setup (now (block .entry)) .block) ⌝ }
 {
-    match setup.opens(block.len()) {
-        Opens::Refused(e) => Reply {
+    match opens(setup, block.len()) {
+        Laid::Refused(e) => Reply {
             stream: no_stream(),
             answer: Answer::Refused(e),
         },
-        Opens::Yes(_) => {
+        Laid::Layout(_) => {
             init_headers(setup, block);
             Reply {
                 stream: opened(setup),

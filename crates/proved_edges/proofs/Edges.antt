@@ -1,4 +1,5 @@
--- Every value of the cases computes. Assumes nothing.
+-- Every value of the cases computes.
+-- Assumes nothing.
 use mathlib.Core.Path.{refl}
 use Rattle.error.specs.declared.Error.{Error}
 use Rattle.sys.specs.Bytes as Bytes
@@ -9,18 +10,20 @@ use Rattle.schedule.specs.Interval.{packetIntervalUs, intervalFrom}
 use Rattle.schedule.specs.Derive.{derived, derivedFrom}
 use Rattle.layout.specs.Tests.{first, passed}
 use Rattle.layout.specs.Layout.{raised, slotStride, dataBase, dataStride, total, layoutOf, sizes, anyAbove, overflowing, laid, laidOut}
-use Rattle.layout.specs.Opening.{maskedOf, limit, layoutFor, totalOf, limits, badBase, baseAddress, accepted}
+use Rattle.layout.specs.Numbers as Numbers
+use Rattle.layout.specs.Opening.{maskedOf, limit, layoutFor, totalOf, limits, badBase, baseAddress, admissible}
 use Rattle.layout.specs.Places.{placesOf}
 use Rattle.ring.specs.Slots as Slots
 use Rattle.ring.specs.Counts as Counts
-use Rattle.ring.specs.Parts.{queueOf, stateOf}
+use Rattle.ring.specs.Parts as Parts
 use Rattle.ring.specs.Sound as Ring
-use Rattle.stream.specs.Opened.{slotNumbers, freeRing, openedStream}
 use Rattle.stream.specs.Parts.{withState}
 use Rattle.stream.specs.Sound.{sound}
+use Rattle.opening.specs.Opened.{openedStream}
 use Rattle.opening.specs.Open.{openedHeader, withHeaders, openedBlock}
 use Rattle.ledger.specs.Ledger as Ledger
-use Rattle.ledger.specs.Block as Block
+use Rattle.ledger.specs.Slot as Slot
+use Rattle.ledger.specs.Notice as Notice
 use Rattle.ledger.specs.Step as Step
 use Rattle.ledger.specs.Turn as Turn
 use Rattle.ledger.specs.Commit as Commit
@@ -28,29 +31,31 @@ use Rattle.ledger.specs.Submitted as Submitted
 use Rattle.ledger.specs.Reaped as Reaped
 use Rattle.ledger.specs.Control as Control
 use Rattle.ledger.specs.Record as Record
-use Rattle.history.specs.History as History
+use Rattle.ledger.specs.Calls as Calls
+use Rattle.history.specs.History.{recordAfter}
 use Rattle.proved_edges.specs.Hosts as Hosts
 use Rattle.proved_edges.specs.Edges.{Edges, eightCalls}
 
 pub edges : Edges
 unfolding
-    raised slotStride dataBase dataStride total layoutOf sizes anyAbove overflowing first passed laid laidOut maskedOf limit layoutFor totalOf limits badBase baseAddress accepted placesOf
+    raised slotStride dataBase dataStride total layoutOf sizes anyAbove overflowing first passed laid laidOut maskedOf limit layoutFor totalOf limits badBase baseAddress admissible placesOf Numbers.policyFrom Numbers.setupFrom
     packetIntervalUs intervalFrom derived derivedFrom
-    Bytes.le Bytes.ofLe Bytes.store Bytes.laid Signed.signed Header.headerBytes Descriptor.descBytes Descriptor.descAt
-    openedHeader withHeaders openedBlock slotNumbers freeRing openedStream withState sound
-    queueOf stateOf Slots.isFree Slots.isFilling Slots.isOut Slots.one Slots.holds Slots.handWithin Counts.everySlot Counts.howMany Counts.times Counts.allBelow
+    Bytes.le Bytes.ofLe Bytes.store Bytes.laid Signed.signed Header.headerBytes Header.headerAt Descriptor.descBytes Descriptor.descAt
+    openedHeader withHeaders openedBlock openedStream withState sound
+    Parts.queueOf Parts.stateOf Parts.withQueue Parts.withState Parts.withStates Parts.withOut Parts.freeRing Slots.isFree Slots.isFilling Slots.isOut Slots.one Slots.holds Slots.handWithin Counts.slotNumbers Counts.table Counts.everySlot Counts.howMany Counts.times Counts.allBelow
     Ring.queuedRight Ring.queueSound Ring.outSound Ring.heldRight Ring.handSound Ring.soundRing
     Ledger.withHand Ledger.withQueue Ledger.withMarks Ledger.withFlags Ledger.withTotals Ledger.markOf Ledger.marked Ledger.outs Ledger.slotState Ledger.stateIn Ledger.returned Ledger.plus
-    Block.sum Block.shares Block.descriptors Block.headed Block.committed Block.silenced Block.bufferBytes Block.cookieOf Block.packetsAt Block.requested Block.short Block.completionOf
-    Step.refused Step.onBlock Step.onIdle Step.onHeld Step.putBack
+    Slot.sum Slot.shares Slot.descriptors Slot.headed Slot.committed Slot.silenced
+    Notice.bufferBytes Notice.cookieOf Notice.slotAt Notice.slotOfUrb Notice.packetsAt Notice.requested Notice.short Notice.completionOf
+    Step.refused Step.onBlock Step.byIdle Step.whenIdle Step.byHeld Step.whenHeld Step.putBack
     Turn.takeFront Turn.silenceFront Turn.drained Turn.oneUnderrun Turn.underrun Turn.onUnderrun Turn.turnIdle Turn.turn
     Commit.send Commit.commitHeld Commit.commit
-    Submitted.oneSubmitted Submitted.acceptedLedger Submitted.sent Submitted.chained Submitted.silent Submitted.bySending Submitted.submitted
-    Reaped.slotAt Reaped.slotOfUrb Reaped.isZero Reaped.isGone Reaped.urbError Reaped.oneCompleted Reaped.noticed Reaped.byAddress Reaped.reapedIdle Reaped.reaped
-    Control.startedLedger Control.start
-    Record.markFor Record.view Record.statesFrom Record.ringFor Record.stored Record.call
-    History.rule History.lentTo History.made History.recordAfter
-    Hosts.opened Hosts.callPlain Hosts.callLent eightCalls
+    Submitted.oneSubmitted Submitted.acceptedLedger Submitted.sent Submitted.chained Submitted.silent Submitted.bySending Submitted.submittedHand Submitted.submitted
+    Reaped.isZero Reaped.isGone Reaped.urbError Reaped.oneCompleted Reaped.noticed Reaped.byAddress Reaped.reapedIdle Reaped.reaped
+    Control.startedLedger Control.startIdle Control.start
+    Record.markFor Record.view Record.ringFor Record.stored Record.call
+    Calls.rule Calls.lentTo Calls.made recordAfter
+    Hosts.opened Hosts.recordOf Hosts.callPlain Hosts.callLent eightCalls
 edges =
     record {
       layout-2-1-192 = refl;

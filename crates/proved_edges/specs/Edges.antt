@@ -18,19 +18,20 @@ use Rattle.schedule.specs.Derive.{derived}
 use Rattle.schedule.specs.Endpoint.{bytesPerInterval}
 use Rattle.layout.specs.declared.Laid.{Laid}
 use Rattle.layout.specs.declared.Setup.{Setup}
-use Rattle.layout.specs.declared.Underrun.{Underrun}
 use Rattle.layout.specs.Layout.{laidOut}
+use Rattle.layout.specs.Numbers.{setupFrom}
 use Rattle.layout.specs.Places.{placesOf}
 use Rattle.ring.specs.declared.Found.{Found}
 use Rattle.stream.specs.declared.Answer.{Answer}
 use Rattle.stream.specs.declared.Reaping.{Reaping}
 use Rattle.stream.specs.declared.Submission.{Submission}
+use Rattle.opening.specs.Opened.{openedStream}
 use Rattle.opening.specs.Open.{openedBlock}
-use Rattle.ledger.specs.Block.{packetsAt}
+use Rattle.ledger.specs.Notice.{slotOfUrb, packetsAt}
 use Rattle.ledger.specs.Record.{Outcome}
-use Rattle.ledger.specs.Reaped.{slotOfUrb}
-use Rattle.history.specs.History.{turn, commit, submitted, reaped, start, made, recordAfter}
-use Rattle.proved_edges.specs.Hosts.{Host, opened, callPlain, callLent}
+use Rattle.ledger.specs.Calls.{turn, commit, submitted, reaped, start, made}
+use Rattle.history.specs.History.{recordAfter}
+use Rattle.proved_edges.specs.Hosts.{Host, opened, recordOf, callPlain, callLent}
 
 -- An answer is the refusal with that number.
 pub record Refuses {A : Type 0} (refused : Error → A) (answer : A) (number : ℕ) : Type 0 where
@@ -38,27 +39,17 @@ pub record Refuses {A : Type 0} (refused : Error → A) (answer : A) (number : �
   pub is : answer ≡ refused error
   pub numbered : numberOf error ≡ number
 
--- An opening at base 65,536, with addresses that carry no tag, endpoint 1 and silence byte 0.
-abbrev pub setupOf : ℕ → ℕ → ℕ → Underrun → Setup
-setupOf n p b policy =
-    record {
-      slots = n;
-      «packets_per_urb» = p;
-      «packet_bytes» = b;
-      endpoint = 1;
-      underrun = policy;
-      «silence_byte» = 0;
-      base = 65536;
-      tagged = false;
-    }
-
--- R, at base 65,536.
+-- R, at base 65,536: n, p, b, endpoint, policy, silence byte, base, tag.
 abbrev pub R : Setup
-R = setupOf 4 8 100 Underrun.Continue
+R = setupFrom (4 ∷ 8 ∷ 100 ∷ 1 ∷ 0 ∷ 0 ∷ 65536 ∷ 0 ∷ [])
+
+-- Two slots, FillSilence.
+abbrev pub two : Setup
+two = setupFrom (2 ∷ 1 ∷ 192 ∷ 1 ∷ 1 ∷ 0 ∷ 65536 ∷ 0 ∷ [])
 
 -- On R: a commit of slot 0, which the first turn gave.
 abbrev pub committedOn : ℕ → Outcome
-committedOn bytes = made (commit bytes (openedBlock R)) (recordAfter R (turn (openedBlock R) ∷ []))
+committedOn bytes = made (commit bytes (openedBlock R)) (recordAfter (openedStream R) (turn (openedBlock R) ∷ []))
 
 -- It is taken, and leaves these lengths in the slot's descriptors.
 pub record Commits (bytes : ℕ) (lengths : List ℕ) : Type 0 where
@@ -67,11 +58,7 @@ pub record Commits (bytes : ℕ) (lengths : List ℕ) : Type 0 where
 
 -- On R as opened: a notice of that address.
 abbrev pub noticeOn : ℕ → Answer
-noticeOn address = made (reaped (Reaping.Address address) (openedBlock R)) (recordAfter R []) .answer
-
--- Two slots, FillSilence.
-abbrev pub two : Setup
-two = setupOf 2 1 192 Underrun.FillSilence
+noticeOn address = made (reaped (Reaping.Address address) (openedBlock R)) (openedStream R) .answer
 
 -- start, turn, commit, accepted, reaped 0, turn, accepted, accepted.
 unfoldable pub eightCalls : Host
@@ -92,11 +79,50 @@ endpointOf size = record { address = 1; attributes = 1; «max_packet_size» = si
 
 pub record Edges : Type 0 where
   -- Layout (2,1,192): strides 72 and 192, data base 192, total 576.
-  pub layout-2-1-192 : laidOut 2 1 192 ≡ Laid.Layout (record { slots = 2; «slot_stride» = 72; «data_base» = 192; «data_stride» = 192; «packet_bytes» = 192; «packets_per_urb» = 1; «total_bytes» = 576; align = 64; «slot_capacity» = 192 })
+  pub layout-2-1-192 :
+      laidOut 2 1 192
+      ≡ Laid.Layout
+      (record {
+        slots = 2;
+        «slot_stride» = 72;
+        «data_base» = 192;
+        «data_stride» = 192;
+        «packet_bytes» = 192;
+        «packets_per_urb» = 1;
+        «total_bytes» = 576;
+        align = 64;
+        «slot_capacity» = 192;
+      })
   -- (4,8,100), call it R: 152, 832, 640, 3968.
-  pub layout-R : laidOut 4 8 100 ≡ Laid.Layout (record { slots = 4; «slot_stride» = 152; «data_base» = 640; «data_stride» = 832; «packet_bytes» = 100; «packets_per_urb» = 8; «total_bytes» = 3968; align = 64; «slot_capacity» = 800 })
+  pub layout-R :
+      laidOut 4 8 100
+      ≡ Laid.Layout
+      (record {
+        slots = 4;
+        «slot_stride» = 152;
+        «data_base» = 640;
+        «data_stride» = 832;
+        «packet_bytes» = 100;
+        «packets_per_urb» = 8;
+        «total_bytes» = 3968;
+        align = 64;
+        «slot_capacity» = 800;
+      })
   -- (2,128,1): stride 1592, base 3200, total 3456.
-  pub layout-2-128-1 : laidOut 2 128 1 ≡ Laid.Layout (record { slots = 2; «slot_stride» = 1592; «data_base» = 3200; «data_stride» = 128; «packet_bytes» = 1; «packets_per_urb» = 128; «total_bytes» = 3456; align = 64; «slot_capacity» = 128 })
+  pub layout-2-128-1 :
+      laidOut 2 128 1
+      ≡ Laid.Layout
+      (record {
+        slots = 2;
+        «slot_stride» = 1592;
+        «data_base» = 3200;
+        «data_stride» = 128;
+        «packet_bytes» = 1;
+        «packets_per_urb» = 128;
+        «total_bytes» = 3456;
+        align = 64;
+        «slot_capacity» = 128;
+      })
   -- 129 packets: 3.
   pub packets-129 : Refuses Laid.Refused (laidOut 2 129 1) 3
   -- On R, commit 800: all 100; 801: 10; 250: 100, 100, 50, five 0; 0: zeros.
@@ -130,14 +156,22 @@ pub record Edges : Type 0 where
       ∷ Answer.Slot 0
       ∷ Answer.Submit 0
       ∷ Answer.Done
-      ∷ Answer.Completed (record { status = pos 0; «actual_bytes» = 0; «requested_bytes» = 192; «short_bytes» = 192; «packet_errors» = 0; «was_discarded» = false })
+      ∷ Answer.Completed
+      (record {
+        status = pos 0;
+        «actual_bytes» = 0;
+        «requested_bytes» = 192;
+        «short_bytes» = 192;
+        «packet_errors» = 0;
+        «was_discarded» = false;
+      })
       ∷ Answer.Submit 1
       ∷ Answer.Submit 0
       ∷ Answer.Nothing
       ∷ []
   -- submitted 3, completed 1, underruns 1.
   pub silence-counters :
-      recordAfter two (eightCalls .calls) .stats
+      recordOf two eightCalls .stats
       ≡ record {
         «urbs_submitted» = 3;
         «urbs_completed» = 1;

@@ -9,14 +9,13 @@ use native.Mathlib.Omega.{arith}
 use lib.Dec.{ltb, leb, eqb}
 use borrow.Author.Tests.{leb-false}
 use Rattle.layout.specs.declared.Setup.{Setup}
-use Rattle.layout.specs.Opening.{accepted, layoutFor, maskedOf}
+use Rattle.layout.specs.Opening.{admissible, layoutFor, maskedOf}
 use Rattle.ring.specs.declared.Found.{Found}
-use Rattle.ledger.specs.Block.{cookieOf}
-use Rattle.ledger.specs.Reaped.{slotAt, slotOfUrb}
+use Rattle.ledger.specs.Notice.{cookieOf, slotAt, slotOfUrb}
 use Rattle.ledger.proofs.Found.{found-past, found-at}
 use Rattle.notice.proofs.Offsets.{strided}
 
-offset-below : (s : Setup) → accepted s ≡ true → (offset : ℕ) (block : List ℕ) (i : ℕ) → slotAt s offset block ≡ Found.Slot i → i < s .slots
+offset-below : (s : Setup) → admissible s ≡ true → (offset : ℕ) (block : List ℕ) (i : ℕ) → slotAt s offset block ≡ Found.Slot i → i < s .slots
 unfolding slotAt
 offset-below s ok offset block i e =
     let stride = layoutFor s .«slot_stride» in
@@ -26,7 +25,7 @@ offset-below s ok offset block i e =
     let some : 0 < stride = omega (arith, strided s stride ok refl .holds) in
     rw (← named) (div-lt-iff-lt-mul some .1 (leb-false (s .slots * stride) offset (within .0)))
 
-pub named-below : (s : Setup) → accepted s ≡ true → (address : ℕ) (block : List ℕ) (i : ℕ) → slotOfUrb s address block ≡ Found.Slot i → i < s .slots
+pub named-below : (s : Setup) → admissible s ≡ true → (address : ℕ) (block : List ℕ) (i : ℕ) → slotOfUrb s address block ≡ Found.Slot i → i < s .slots
 unfolding slotOfUrb
 named-below s ok address block i e =
     let base = maskedOf (s .tagged) (s .base) in

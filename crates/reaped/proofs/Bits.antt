@@ -1,19 +1,13 @@
--- A URB's status, by the bits that a test of it compares: a signed number of 32 bits is read back from them.
+-- A URB's status, by the bits that a test of it compares.
 -- Each law goes by the sign. Assumes nothing.
 use mathlib.Core.Path.{_≡_, refl, ap}
 use mathlib.Core.Bool.{false}
-use Prim.Native.Nat.{ℕ, _^_, _<_}
+use Prim.Native.Nat.{ℕ}
 use lib.IntN.{ℤ, pos, negsuc}
-use lib.Signed.{mag}
 use mir.Syntax.{w32}
-use mir.Val.{ofZ, toZ}
-use mir.Facts.{toZ-ofZ}
+use mir.Val.{ofZ}
 use borrow.Author.Tests.{ne-eqb}
 use Rattle.ledger.specs.Reaped.{isZero, isGone, urbError}
-
--- a number as it is read from the bits that hold it
-pub read-back : (z : ℤ) → mag z < 2 ^ 31 → toZ w32 (ofZ w32 z) ≡ z
-read-back z h = toZ-ofZ {w = w32} {z = z} (record { sfits = h })
 
 -- the bits are not those of 0
 pub error-counted : (z : ℤ) → (ofZ w32 z ≡ 0 → ⊥) → urbError z ≡ 1

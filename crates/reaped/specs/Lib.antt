@@ -1,1 +1,1 @@
-pub mod Notice
+pub mod Completed

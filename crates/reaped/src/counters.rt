@@ -4,7 +4,7 @@ use stream::Completion;
 use stream::IsoStats;
 ghost use mathlib.Core.Path.{_≡_};
 ghost use Rattle.ledger.specs.Reaped.{urbError, oneCompleted};
-ghost use Rattle.reaped.specs.Notice.{totalsAfter};
+ghost use Rattle.reaped.specs.Completed.{totalsAfter};
 
 // 1 for a URB with an error.
 fn urb_error(status: i32) -> u64

@@ -5,56 +5,56 @@ mod status;
 use counters::totals_after;
 use error::ErrnoContext;
 use error::Error;
-use hand::refused;
+use gate::Gate;
+use gate::Lent;
+use gate::idle_gate;
+use gate::refused;
 use notice::complete;
 use notice::slot_of_urb;
 use ring::Found;
-use ring::Hand;
 use ring::SlotState;
 use status::answer_for;
 use stream::Answer;
-use stream::Gate;
 use stream::IsoStats;
 use stream::Reaping;
 use stream::Reply;
 use stream::Stream;
 ghost use mathlib.Core.Path.{_≡_};
-ghost use mathlib.Core.Bool.{true};
+ghost use mathlib.Core.Bool.{true, cond};
 ghost use mathlib.Core.List.{[]};
 ghost use Prim.Native.Nat.{_<_};
 ghost use lib.ListN.{length};
 ghost use Rattle.layout.specs.Opening.{totalOf};
+ghost use Rattle.ring.specs.declared.Hand.{Hand};
 ghost use Rattle.ring.specs.Parts.{stateOf};
 ghost use Rattle.ring.specs.Slots.{isOut};
 ghost use Rattle.stream.specs.Sound.{sound};
-ghost use Rattle.ledger.specs.Ledger.{withTotals, markOf, returned as returnedRule};
-ghost use Rattle.ledger.specs.Block.{completionOf};
-ghost use Rattle.ledger.specs.Reaped.{noticed as noticedRule, byAddress, byErrno, slotOfUrb, reaped as reapedRule};
-ghost use Rattle.ledger.specs.Record.{view, stored, call};
-ghost use Rattle.reaped.specs.Notice.{returnedWith, replyFor};
+ghost use Rattle.ledger.specs.Calls.{Call};
+ghost use Rattle.ledger.specs.Gives.{Gives};
+ghost use Rattle.ledger.specs.Ledger.{out, discarded, withTotals, markOf, returned as returnedRule};
+ghost use Rattle.ledger.specs.Notice.{slotOfUrb};
+ghost use Rattle.ledger.specs.Reaped.{noticed as noticedRule, byAddress, byErrno, reapedIdle};
+ghost use Rattle.ledger.specs.Record.{view, stored};
+ghost use Rattle.ledger.specs.Told.{Told};
 
 // Internal: slot i, which was out, at the queue's end; and other counters.
 fn returned(s: Stream, i: usize, stats: IsoStats) -> Stream
-    requires { ⌜ (sound s ≡ true) × (s .hand ≡ Hand.Idle) × (i < s .setup .slots) × (isOut (stateOf (s .ring) i) ≡ true) ⌝ }
+    requires { ⌜ (sound s ≡ true) × (s .hand ≡ Hand.Idle) × (i < s .setup .slots)
+        × (isOut (stateOf (s .ring) i) ≡ true) ⌝ }
     ensures { λ r. ⌜ r ≡ stored s (withTotals stats (returnedRule i (view s))) ⌝ }
 {
-    let setup = s.setup;
     let ring = s.ring;
     let hand = s.hand;
-    let flags = s.flags;
-    Stream {
-        setup,
-        ring: ring.complete(i),
-        hand,
-        flags,
-        stats,
-    }
+    Stream::new(s.setup, ring.complete(i), hand, s.flags, stats)
 }
 
 // Internal: slot i, which was out, is reaped: its completion decides on counters and answer.
 fn reaped_slot(s: Stream, block: &[u8], i: usize, was_discarded: bool) -> Reply
-    requires { ⌜ (sound s ≡ true) × (s .hand ≡ Hand.Idle) × (i < s .setup .slots) × (isOut (stateOf (s .ring) i) ≡ true) × (length (now block) ≡ totalOf (s .setup)) ⌝ }
-    ensures { λ r. ⌜ r ≡ returnedWith (completionOf (s .setup) i «was_discarded» (now (block .entry))) s i ⌝ }
+    requires { ⌜ (sound s ≡ true) × (s .hand ≡ Hand.Idle) × (i < s .setup .slots)
+        × (isOut (stateOf (s .ring) i) ≡ true) × (length (now block) ≡ totalOf (s .setup)) ⌝ }
+    ensures { λ r.
+        ⌜ Gives s (noticedRule (s .setup) (cond «was_discarded» discarded out) i (view s) (now (block .entry)))
+        r (now (block .entry)) ⌝ }
 {
     let done = complete(s.setup, block, i, was_discarded);
     let stats = totals_after(s.stats, done);
@@ -66,14 +66,14 @@ fn reaped_slot(s: Stream, block: &[u8], i: usize, was_discarded: bool) -> Reply
 
 // Internal: a notice of slot i, by the slot's state. Filling can't be: the hand is Idle.
 fn noticed(s: Stream, block: &[u8], i: usize) -> Reply
-    requires { ⌜ (sound s ≡ true) × (s .hand ≡ Hand.Idle) × (i < s .setup .slots) × (length (now block) ≡ totalOf (s .setup)) ⌝ }
-    ensures { λ r. ⌜ r ≡ replyFor s (noticedRule (s .setup) (markOf (view s) i) i (view s) (now (block .entry))) ⌝ }
+    requires { ⌜ (sound s ≡ true) × (s .hand ≡ Hand.Idle) × (i < s .setup .slots)
+        × (length (now block) ≡ totalOf (s .setup)) ⌝ }
+    ensures { λ r.
+        ⌜ Gives s (noticedRule (s .setup) (markOf (view s) i) i (view s) (now (block .entry)))
+        r (now (block .entry)) ⌝ }
 {
     let ring = s.ring;
-    let states = ring.states;
-    let cell = states[i];
-    let state = cell.state;
-    match state {
+    match ring.state(i) {
         SlotState::Free => refused(s, Error::StrayNotice),
         SlotState::Filling => refused(s, Error::StrayNotice),
         SlotState::InFlight => reaped_slot(s, block, i, false),
@@ -81,10 +81,13 @@ fn noticed(s: Stream, block: &[u8], i: usize) -> Reply
     }
 }
 
-// Internal: a notice, by the address of its URB. The kernel reports each URB of the file descriptor, so it may be no slot's.
+// Internal: a notice, by the address of its URB. The kernel reports each URB of the file descriptor, so it may be no
+// slot's.
 fn by_address(s: Stream, block: &[u8], address: usize) -> Reply
     requires { ⌜ (sound s ≡ true) × (s .hand ≡ Hand.Idle) × (length (now block) ≡ totalOf (s .setup)) ⌝ }
-    ensures { λ r. ⌜ r ≡ replyFor s (byAddress (s .setup) (slotOfUrb (s .setup) address (now (block .entry))) (view s) (now (block .entry))) ⌝ }
+    ensures { λ r.
+        ⌜ Gives s (byAddress (s .setup) (slotOfUrb (s .setup) address (now (block .entry)))
+        (view s) (now (block .entry))) r (now (block .entry)) ⌝ }
 {
     match slot_of_urb(s.setup, block, address) {
         Found::Nothing => Reply {
@@ -98,7 +101,7 @@ fn by_address(s: Stream, block: &[u8], address: usize) -> Reply
 // Internal: an errno, for which the block is not looked at. EAGAIN, 11, says that no URB is done yet.
 fn by_errno(s: Stream, errno: u32) -> Reply
     requires { ⌜ sound s ≡ true ⌝ }
-    ensures { λ r. ⌜ r ≡ replyFor s (byErrno errno (view s) []) ⌝ }
+    ensures { λ r. ⌜ Gives s (byErrno errno (view s) []) r [] ⌝ }
 {
     if errno == 11 {
         return Reply {
@@ -109,23 +112,23 @@ fn by_errno(s: Stream, errno: u32) -> Reply
     refused(s, Error::from_errno(errno, ErrnoContext::Other))
 }
 
+// Internal: reaped with the hand Idle, by the kernel's reply.
+fn reaped_idle(s: Stream, reply: Reaping, block: &[u8]) -> Reply
+    requires { ⌜ (sound s ≡ true) × (s .hand ≡ Hand.Idle) × (length (now block) ≡ totalOf (s .setup)) ⌝ }
+    ensures { λ r. ⌜ Gives s (reapedIdle reply (s .setup) (view s) (now (block .entry))) r (now (block .entry)) ⌝ }
+{
+    match reply {
+        Reaping::Errno(errno) => by_errno(s, errno),
+        Reaping::Address(address) => by_address(s, block, address),
+    }
+}
+
 // Takes the kernel's reply: an errno, or the address of a URB that is done. The block is only read.
 pub fn reaped(s: Stream, reply: Reaping, block: &[u8]) -> Reply
-    ensures { λ r. ⌜ (r .answer ≡ call (reapedRule reply) s (now (block .entry)) .answer) × (r .stream ≡ call (reapedRule reply) s (now (block .entry)) .stream) × (now (block .entry) ≡ call (reapedRule reply) s (now (block .entry)) .lent) ⌝ }
+    ensures { λ r. ⌜ Told (Call.reaped reply (now (block .entry))) s (r .answer) (r .stream) (now (block .entry)) ⌝ }
 {
-    match s.gate(block.len()) {
+    match idle_gate(s, Lent::Block(block.len())) {
         Gate::Refused(e) => refused(s, e),
-        Gate::Open => {
-            let hand = s.hand;
-            match hand {
-                Hand::Idle => match reply {
-                    Reaping::Errno(errno) => by_errno(s, errno),
-                    Reaping::Address(address) => by_address(s, block, address),
-                },
-                Hand::Held(_) => refused(s, Error::WrongHand),
-                Hand::Sending(_) => refused(s, Error::WrongHand),
-                Hand::Silent(_, _) => refused(s, Error::WrongHand),
-            }
-        }
+        Gate::Open => reaped_idle(s, reply, block),
     }
 }

@@ -4,7 +4,7 @@ use stream::Answer;
 use stream::Completion;
 ghost use mathlib.Core.Path.{_≡_};
 ghost use Rattle.ledger.specs.Reaped.{isGone};
-ghost use Rattle.reaped.specs.Notice.{answerFor};
+ghost use Rattle.reaped.specs.Completed.{answerFor};
 
 // ENODEV or ESHUTDOWN, negated as the kernel gives them.
 fn is_gone(status: i32) -> bool

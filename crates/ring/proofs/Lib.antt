@@ -1,9 +1,10 @@
 pub mod Truth
 pub mod Counts
+pub mod Numbers
 pub mod Queue
-pub mod States
 pub mod Hands
 pub mod Wide
+pub mod States
 pub mod Sound
 pub mod Walk
 pub mod Pigeonhole

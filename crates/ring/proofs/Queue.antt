@@ -8,9 +8,9 @@ use mir.Val.{Fits}
 use mathlib.Core.Path.{_≡_, sym, ap, _∙_}
 use mathlib.Core.List.{List, [], _∷_, _++_}
 use lib.ListN.{length, getD, take, drop, set, length-append, length-drop, take-append-drop}
-use lib.Seq.{take-suc, drop-cons, set-at, set-split, getD-drop, getD-append-add, append-snoc, length-take-le}
+use lib.Seq.{take-suc, drop-cons, set-at, set-split, getD-drop, getD-append-add, append-snoc, length-take-le, take-append-seam}
 use Rattle.ring.specs.declared.Ring.{Ring}
-use Rattle.ring.specs.Parts.{queueOf, withQueue}
+use Rattle.ring.specs.Parts.{queueOf, withQueue, withOut}
 
 -- A number that fits a byte is below 256.
 pub byte-below : {x : ℕ} → Fits w8 x → x < 256
@@ -68,3 +68,13 @@ module _ (ring : Ring) where
   pub queue-long : ring .«free_len» ≤ length (ring .free) → length (queueOf ring) ≡ ring .«free_len»
   unfolding queueOf
   queue-long w = length-take-le (ring .«free_len») (ring .free) w
+
+-- another queue, and another out count with it
+module _ (ring : Ring) (queue : List ℕ) (count : ℕ) where
+  pub queue-put : queueOf (withOut (withQueue ring queue) count) ≡ queue
+  unfolding queueOf withOut withQueue
+  queue-put = take-append-seam queue (drop (length queue) (ring .free))
+
+  pub places-put : length (ring .free) ≡ 256 → length queue ≤ 256 → length (withOut (withQueue ring queue) count .free) ≡ 256
+  unfolding withOut withQueue
+  places-put wide fits = rw (length-append, length-drop, wide) (omega arith)

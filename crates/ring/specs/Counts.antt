@@ -1,9 +1,19 @@
--- Tests and counts over the slots below n, and over a queue.
+-- The slots below n, tests and counts over them, and over a queue.
 use Prim.Native.Nat.{ℕ, zero, suc, _+_}
 use mathlib.Core.Bool.{Bool, true, _&&_}
-use mathlib.Core.List.{List, [], _∷_}
+use mathlib.Core.List.{List, [], _∷_, _++_}
 use lib.Dec.{ltb, eqb}
 use Rattle.ring.specs.Slots.{one}
+
+-- The slots 0 to n-1.
+unfoldable pub slotNumbers : ℕ → List ℕ
+slotNumbers zero = []
+slotNumbers (suc n) = slotNumbers n ++ (n ∷ [])
+
+-- A figure of each slot below n, in order.
+unfoldable pub table : {A : Type 0} → (ℕ → A) → ℕ → List A
+table figure zero = []
+table figure (suc n) = table figure n ++ (figure n ∷ [])
 
 -- Every slot below n passes the test.
 unfoldable pub everySlot : ℕ → (ℕ → Bool) → Bool

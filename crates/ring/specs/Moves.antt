@@ -21,8 +21,8 @@ unfoldable pub returned : Ring → ℕ → Ring
 returned ring i = withState (withQueue ring (queueOf ring ++ (i ∷ []))) i Free
 
 -- Slot i accepted by the kernel: InFlight, and one more is out.
-unfoldable pub accepted : Ring → ℕ → Ring
-accepted ring i = withState (withOut ring (ring .«in_flight» + 1)) i InFlight
+unfoldable pub markedInFlight : Ring → ℕ → Ring
+markedInFlight ring i = withState (withOut ring (ring .«in_flight» + 1)) i InFlight
 
 -- Slot i, InFlight, discarded: still out, so the out count stays.
 unfoldable pub discarded : Ring → ℕ → Ring

@@ -1,10 +1,12 @@
--- What a ring shows, queue and states, and the ring with one of its parts changed.
-use Prim.Native.Nat.{ℕ}
+-- What a ring shows, queue and states, the ring with one of its parts changed, and a fresh ring. Other crates know the states by stateOf,
+-- withState and withStates alone.
+use Prim.Native.Nat.{ℕ, zero, suc, _-_}
 use mathlib.Core.List.{List, _++_}
-use lib.ListN.{length, take, drop, getD, set}
+use lib.ListN.{length, take, drop, getD, set, replicate}
 use Rattle.ring.specs.declared.SlotState.{SlotState}
 use Rattle.ring.specs.declared.SlotState.the-variants.{Free}
 use Rattle.ring.specs.declared.Ring.{Ring}
+use Rattle.ring.specs.Counts.{slotNumbers}
 
 -- The free queue, front first.
 unfoldable pub queueOf : Ring → List ℕ
@@ -34,7 +36,22 @@ withState ring i state =
       «in_flight» = ring .«in_flight»;
     }
 
+-- The ring with the states of the slots below n as f gives them; the others are as they were.
+unfoldable pub withStates : ℕ → (ℕ → SlotState) → Ring → Ring
+withStates zero f ring = ring
+withStates (suc n) f ring = withState (withStates n f ring) n (f n)
+
 -- The ring with another out count.
 unfoldable pub withOut : Ring → ℕ → Ring
 withOut ring count =
     record { states = ring .states; free = ring .free; «free_len» = ring .«free_len»; «in_flight» = count }
+
+-- A ring of n slots, all Free, queue 0..n-1, none out; the unused places of the queue are zero.
+unfoldable pub freeRing : ℕ → Ring
+freeRing n =
+    record {
+      states = replicate 256 (record { state = Free });
+      free = slotNumbers n ++ replicate (256 - n) 0;
+      «free_len» = n;
+      «in_flight» = 0;
+    }

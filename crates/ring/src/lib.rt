@@ -4,12 +4,14 @@
 ghost use mathlib.Core.Path.{_≡_};
 ghost use mathlib.Core.Bool.{false};
 ghost use mathlib.Core.List.{_++_};
-ghost use Prim.Native.Nat.{_<_, _≤_};
+ghost use Prim.Native.Nat.{_-_, _<_, _≤_};
 ghost use lib.ListN.{replicate, take, drop};
+ghost use Rattle.ring.specs.declared.SlotState.{SlotState};
 ghost use Rattle.ring.specs.Slots.{placeOf, holds, handWithin};
+ghost use Rattle.ring.specs.Counts.{slotNumbers};
 ghost use Rattle.ring.specs.Sound.{soundRing};
-ghost use Rattle.ring.specs.Parts.{withState};
-ghost use Rattle.ring.specs.Moves.{taken, returned, accepted, discarded, completed};
+ghost use Rattle.ring.specs.Parts.{stateOf, withState, freeRing};
+ghost use Rattle.ring.specs.Moves.{taken, returned, markedInFlight, discarded, completed};
 
 // What a slot is doing. Free: in the queue. Filling: in hand. InFlight: the kernel has it. Discarding: the kernel
 // was asked to give it back.
@@ -124,7 +126,60 @@ fn moved_down(mut free: [u8; 256], count: usize) -> [u8; 256]
     free
 }
 
+// Internal: every slot Free.
+fn all_free() -> [Cell; 256]
+    ensures { λ r. ⌜ r ≡ replicate 256 (record { state = SlotState.Free }) ⌝ }
+{
+    [Cell {
+        state: SlotState::Free,
+    }; 256]
+}
+
+// Internal: an empty queue's places.
+fn no_slots() -> [u8; 256]
+    ensures { λ r. ⌜ r ≡ replicate 256 0 ⌝ }
+{
+    [0; 256]
+}
+
+// Internal: the queue 0..n-1 in its places.
+fn slot_numbers(n: usize) -> [u8; 256]
+    requires { ⌜ n ≤ 256 ⌝ }
+    ensures { λ r. ⌜ r ≡ slotNumbers n ++ replicate (256 - n) 0 ⌝ }
+{
+    let mut free = no_slots();
+    for i in 0..n {
+        free[i] = i as u8;
+    }
+    free
+}
+
 impl Ring {
+    // Internal: a ring of n slots, all of them in the queue.
+    pub fn new(n: usize) -> Ring
+        requires { ⌜ n ≤ 256 ⌝ }
+        ensures { λ r. ⌜ r ≡ freeRing n ⌝ }
+    {
+        let states = all_free();
+        let free = slot_numbers(n);
+        Ring {
+            states,
+            free,
+            free_len: n,
+            in_flight: 0,
+        }
+    }
+
+    // Internal: the state of slot i.
+    pub fn state(self, i: usize) -> SlotState
+        requires { ⌜ i < 256 ⌝ }
+        ensures { λ r. ⌜ r ≡ stateOf self i ⌝ }
+    {
+        let states = self.states;
+        let cell = states[i];
+        cell.state
+    }
+
     // Whether the ring of n slots and the hand break nothing of refusal 8's list, whatever they hold.
     // One walk of the queue marks its slots, and one of the states compares.
     pub fn sound(self, n: usize, hand: Hand) -> bool
@@ -216,7 +271,7 @@ impl Ring {
     // Internal: the kernel accepted slot i, which counts as out from here on.
     pub fn mark_in_flight(mut self, i: usize) -> Ring
         requires { ⌜ (i < 256) × (self .«in_flight» < 256) ⌝ }
-        ensures { λ r. ⌜ r ≡ accepted self i ⌝ }
+        ensures { λ r. ⌜ r ≡ markedInFlight self i ⌝ }
     {
         self.in_flight += 1;
         self.with_state(i, SlotState::InFlight)

@@ -41,7 +41,14 @@ derivedFrom speed bInterval (Interval.Micros us) bytes depth packets =
     (cond (eqb packets 0) (Derived.Refused Error.ZeroPackets)
     (cond (ltb 128 packets) (Derived.Refused Error.TooManyPackets)
     (Derived.Schedule
-    (record { speed = speed; «b_interval» = bInterval; «packet_interval_us» = us; «packets_per_urb» = packets; urbs = urbsOf depth us packets; «packet_bytes» = bytes }))))
+    (record {
+      speed = speed;
+      «b_interval» = bInterval;
+      «packet_interval_us» = us;
+      «packets_per_urb» = packets;
+      urbs = urbsOf depth us packets;
+      «packet_bytes» = bytes;
+    }))))
 
 unfoldable pub derived : Speed → ℕ → ℕ → Depth → Packets → Derived
 derived speed bInterval bytes depth packets =

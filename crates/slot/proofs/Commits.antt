@@ -12,8 +12,9 @@ use Rattle.sys.specs.Bytes.{part, store}
 use Rattle.sys.proofs.Store.{length-store, put-back}
 use Rattle.layout.specs.declared.Places.{Places}
 use Rattle.layout.specs.declared.Setup.{Setup}
+use Rattle.layout.specs.Opening.{capacityOf}
 use Rattle.layout.specs.Places.{Placed}
-use Rattle.ledger.specs.Block.{sum, shares, capacityOf, descriptors, headed, committed, silenced}
+use Rattle.ledger.specs.Slot.{sum, shares, descriptors, headed, committed, silenced}
 use Rattle.layout.specs.Layout.{anyAbove}
 use Rattle.slot.proofs.PacketLengths.{sum-within, sum-shares}
 

@@ -8,7 +8,7 @@ use Rattle.sys.specs.Bytes.{store}
 use Rattle.sys.specs.Descriptor.{descSize, descBytes, packetOf}
 use Rattle.sys.proofs.Store.{store-append}
 use Rattle.sys.proofs.Descriptors.{length-descBytes}
-use Rattle.ledger.specs.Block.{shares, descriptors}
+use Rattle.ledger.specs.Slot.{shares, descriptors}
 
 -- the first descriptor, then the others behind it
 pub store-next : (at v : ℕ) (vs l : List ℕ) → store (at + descSize) (descriptors vs) (store at (descBytes (packetOf v)) l) ≡ store at (descriptors (v ∷ vs)) l

@@ -12,7 +12,7 @@ use lib.Dec.{ltb}
 use lib.ListN.{length, drop, getD, drop-of-length-le}
 use lib.Seq.{drop-cons}
 use Rattle.layout.proofs.Refusals.{or-falses}
-use Rattle.ledger.specs.Block.{sum, shares}
+use Rattle.ledger.specs.Slot.{sum, shares}
 use Rattle.layout.specs.Layout.{anyAbove}
 
 module _ (ls : List ℕ) (k : ℕ) where

@@ -12,8 +12,8 @@ ghost use Rattle.sys.specs.Bytes.{store};
 ghost use Rattle.sys.specs.Header.{headerSize};
 ghost use Rattle.sys.specs.Descriptor.{descSize, descBytes, packetOf};
 ghost use Rattle.layout.specs.Layout.{anyAbove};
-ghost use Rattle.layout.specs.Opening.{accepted, totalOf};
-ghost use Rattle.ledger.specs.Block.{sum, shares, capacityOf, descriptors, headed, committed};
+ghost use Rattle.layout.specs.Opening.{admissible, totalOf, capacityOf};
+ghost use Rattle.ledger.specs.Slot.{sum, shares, lengthsOf, descriptors, headed, committed};
 
 // The smaller of two numbers.
 fn min(a: usize, b: usize) -> usize
@@ -69,7 +69,8 @@ fn set_packet(block: &mut [u8], at: usize, bytes: usize)
     IsoPacketDesc::new(bytes as u32).write(block, at)
 }
 
-// Internal: writes one descriptor a packet from `at` on, with `bytes` shared out from the first on, at most `most` a packet.
+// Internal: writes one descriptor a packet from `at` on, with `bytes` shared out from the first on, at most `most` a
+// packet.
 fn write_shares(block: &mut [u8], at: usize, packets: usize, most: usize, bytes: usize)
     requires { ⌜ (at + descSize * packets ≤ length (now block)) × (most < 2 ^ 32) ⌝ }
     ensures { λ _. ⌜ now (block .exit) ≡ store at (descriptors (shares packets most bytes)) (now (block .entry)) ⌝ }
@@ -84,9 +85,11 @@ fn write_shares(block: &mut [u8], at: usize, packets: usize, most: usize, bytes:
     }
 }
 
-// Internal: writes one descriptor a length from `at` on. `most` stands in the contract alone: with it each length fits 32 bits.
+// Internal: writes one descriptor a length from `at` on. `most` stands in the contract alone: with it each length
+// fits 32 bits.
 fn write_lengths(block: &mut [u8], at: usize, lengths: &[usize], most: usize)
-    requires { ⌜ (at + descSize * length (now lengths) ≤ length (now block)) × (most < 2 ^ 32) × (anyAbove most (now lengths) ≡ false) ⌝ }
+    requires { ⌜ (at + descSize * length (now lengths) ≤ length (now block)) × (most < 2 ^ 32)
+        × (anyAbove most (now lengths) ≡ false) ⌝ }
     ensures { λ _. ⌜ now (block .exit) ≡ store at (descriptors (now (lengths .entry))) (now (block .entry)) ⌝ }
 {
     let mut k = 0;
@@ -96,10 +99,12 @@ fn write_lengths(block: &mut [u8], at: usize, lengths: &[usize], most: usize)
     }
 }
 
-// Internal: commits `bytes` bytes of slot i, at most its capacity: each packet gets the smaller of what is left and packet_bytes.
+// Internal: commits `bytes` bytes of slot i, at most its capacity: each packet gets the smaller of what is left and
+// packet_bytes.
 pub fn set_packet_lengths(setup: Setup, block: &mut [u8], i: usize, bytes: usize)
-    requires { ⌜ (accepted setup ≡ true) × (i < setup .slots) × (length (now block) ≡ totalOf setup) × (bytes ≤ capacityOf setup) ⌝ }
-    ensures { λ _. ⌜ now (block .exit) ≡ committed setup i (shares (setup .«packets_per_urb») (setup .«packet_bytes») bytes) (now (block .entry)) ⌝ }
+    requires { ⌜ (admissible setup ≡ true) × (i < setup .slots) × (length (now block) ≡ totalOf setup)
+        × (bytes ≤ capacityOf setup) ⌝ }
+    ensures { λ _. ⌜ now (block .exit) ≡ committed setup i (lengthsOf setup bytes) (now (block .entry)) ⌝ }
 {
     let at = setup.places(i);
     set_header(block, at.header, bytes);
@@ -108,8 +113,9 @@ pub fn set_packet_lengths(setup: Setup, block: &mut [u8], i: usize, bytes: usize
 
 // Internal: commits slot i with these packet lengths, one a packet and none above packet_bytes.
 pub fn set_packet_lengths_exact(setup: Setup, block: &mut [u8], i: usize, lengths: &[usize])
-    requires { ⌜ (accepted setup ≡ true) × (i < setup .slots) × (length (now block) ≡ totalOf setup) ⌝ }
-    requires { ⌜ (length (now lengths) ≡ setup .«packets_per_urb») × (anyAbove (setup .«packet_bytes») (now lengths) ≡ false) ⌝ }
+    requires { ⌜ (admissible setup ≡ true) × (i < setup .slots) × (length (now block) ≡ totalOf setup) ⌝ }
+    requires { ⌜ (length (now lengths) ≡ setup .«packets_per_urb»)
+        × (anyAbove (setup .«packet_bytes») (now lengths) ≡ false) ⌝ }
     ensures { λ _. ⌜ now (block .exit) ≡ committed setup i (now (lengths .entry)) (now (block .entry)) ⌝ }
 {
     let at = setup.places(i);

@@ -5,8 +5,8 @@ ghost use mathlib.Core.Path.{_≡_};
 ghost use mathlib.Core.Bool.{true};
 ghost use Prim.Native.Nat.{_<_};
 ghost use lib.ListN.{length, replicate};
-ghost use Rattle.layout.specs.Opening.{accepted, totalOf};
-ghost use Rattle.ledger.specs.Block.{shares, capacityOf, committed, silenced};
+ghost use Rattle.layout.specs.Opening.{admissible, totalOf, capacityOf};
+ghost use Rattle.ledger.specs.Slot.{lengthsOf, committed, silenced};
 
 // The filler: every byte of the payload becomes `byte`.
 fn fill(payload: &mut [u8], byte: u8)
@@ -19,10 +19,13 @@ fn fill(payload: &mut [u8], byte: u8)
     }
 }
 
-// Internal: fills slot i's capacity with the silence byte and commits all of it. The filler is lent the payload and no other byte.
+// Internal: fills slot i's capacity with the silence byte and commits all of it. The filler is lent the payload and
+// no other byte.
 pub fn fill_silence(setup: Setup, block: &mut [u8], i: usize)
-    requires { ⌜ (accepted setup ≡ true) × (i < setup .slots) × (length (now block) ≡ totalOf setup) ⌝ }
-    ensures { λ _. ⌜ now (block .exit) ≡ committed setup i (shares (setup .«packets_per_urb») (setup .«packet_bytes») (capacityOf setup)) (silenced setup i (now (block .entry))) ⌝ }
+    requires { ⌜ (admissible setup ≡ true) × (i < setup .slots) × (length (now block) ≡ totalOf setup) ⌝ }
+    ensures { λ _.
+        ⌜ now (block .exit)
+        ≡ committed setup i (lengthsOf setup (capacityOf setup)) (silenced setup i (now (block .entry))) ⌝ }
 {
     let at = setup.places(i);
     let payload = at.payload;

@@ -1,3 +1,3 @@
 pub mod Sound
 pub mod Parts
-pub mod Opened
+pub mod Numbers

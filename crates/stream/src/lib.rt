@@ -4,7 +4,7 @@ use layout::Setup;
 use ring::Hand;
 use ring::Ring;
 ghost use mathlib.Core.Path.{_≡_};
-ghost use Rattle.stream.specs.Sound.{sound, gateOf};
+ghost use Rattle.stream.specs.Sound.{sound};
 
 // Running totals, each modulo 2^64.
 pub struct IsoStats {
@@ -18,7 +18,8 @@ pub struct IsoStats {
     pub underruns: u64,
 }
 
-// Started: between start and stop. Armed: a URB was accepted since the last stop, counted underrun, or start that had an effect.
+// Started: between start and stop. Armed: a URB was accepted since the last stop, counted underrun, or start that
+// had an effect.
 pub struct Flags {
     pub started: bool,
     pub armed: bool,
@@ -74,38 +75,30 @@ pub struct Reply {
     pub answer: Answer,
 }
 
-// Whether a call's first tests passed.
-pub enum Gate {
-    Open,
-    Refused(Error),
-}
-
 impl Stream {
+    // Internal: the record of these parts. Every record is made here.
+    pub fn new(setup: Setup, ring: Ring, hand: Hand, flags: Flags, stats: IsoStats) -> Stream
+        ensures { λ r. ⌜ r ≡ record { setup = setup; ring = ring; hand = hand; flags = flags; stats = stats } ⌝ }
+    {
+        Stream {
+            setup,
+            ring,
+            hand,
+            flags,
+            stats,
+        }
+    }
+
     // Whether the record breaks nothing of refusal 8's list, whatever it holds.
     pub fn sound(self) -> bool
         ensures { λ r. ⌜ r ≡ sound self ⌝ }
     {
         let setup = self.setup;
-        if !setup.accepted() {
+        if !setup.admissible() {
             return false;
         }
         let ring = self.ring;
         let hand = self.hand;
         ring.sound(setup.slots, hand)
-    }
-
-    // Refusal 8, then 6: what every call that is lent a block tests first.
-    pub fn gate(self, block_len: usize) -> Gate
-        ensures { λ r. ⌜ r ≡ gateOf self «block_len» ⌝ }
-    {
-        if !self.sound() {
-            return Gate::Refused(Error::Unsound);
-        }
-        let setup = self.setup;
-        let layout = setup.layout_of();
-        if block_len != layout.total_bytes {
-            return Gate::Refused(Error::BlockLength);
-        }
-        Gate::Open
     }
 }

@@ -6,14 +6,14 @@ use mathlib.Core.List.{List}
 use Prim.Native.Nat.{ℕ}
 use Rattle.ring.specs.declared.Hand.{Hand}
 use Rattle.ring.specs.declared.Ring.{Ring}
-use Rattle.ring.specs.Moves.{accepted}
+use Rattle.ring.specs.Moves.{markedInFlight}
 use Rattle.ring.specs.Parts.{queueOf}
 use Rattle.ring.specs.Slots.{holds}
 use Rattle.ring.proofs.Wide.{Wide}
 use Rattle.stream.specs.declared.Stream.{Stream}
 use Rattle.stream.specs.Parts.{withState}
 use Rattle.stream.specs.Sound.{sound}
-use Rattle.ledger.specs.Block.{bufferBytes}
+use Rattle.ledger.specs.Notice.{bufferBytes}
 use Rattle.ledger.specs.Ledger.{out, withHand, withMarks, withFlags, withTotals, marked}
 use Rattle.ledger.specs.Record.{view, stored}
 use Rattle.ledger.specs.Submitted.{oneSubmitted, acceptedLedger}
@@ -24,7 +24,7 @@ use Rattle.ledger.proofs.Valid.{Valid, sound-valid}
 use Rattle.ledger.proofs.InHand.{slot-below, alone}
 
 module _ (s : Stream) (ok : sound s ≡ true) (wide : Wide (s .ring)) (i : ℕ) (held : holds (s .hand) i ≡ true) (block : List ℕ) where
-  pub accepted-stored : withState s (accepted (s .ring) i) Hand.Idle (record { started = s .flags .started; armed = true }) (oneSubmitted (bufferBytes (s .setup) i block) (s .stats)) ≡ stored s (acceptedLedger (s .setup) i (view s) block)
+  pub accepted-stored : withState s (markedInFlight (s .ring) i) Hand.Idle (record { started = s .flags .started; armed = true }) (oneSubmitted (bufferBytes (s .setup) i block) (s .stats)) ≡ stored s (acceptedLedger (s .setup) i (view s) block)
   unfolding stored acceptedLedger withHand withTotals withFlags marked withMarks view
   accepted-stored =
       ap (λ (r : Ring). withState s r Hand.Idle (record { started = s .flags .started; armed = true }) (oneSubmitted (bufferBytes (s .setup) i block) (s .stats)))

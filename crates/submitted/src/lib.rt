@@ -1,41 +1,47 @@
 // The call submitted: what the kernel answered to the slot in hand.
 use error::ErrnoContext;
 use error::Error;
-use hand::put_back;
-use hand::refused;
+use front::silence_front;
+use front::take_front;
+use gate::Gate;
+use gate::Lent;
+use gate::block_gate;
+use gate::put_back;
+use gate::refused;
 use layout::Setup;
 use notice::buffer_bytes;
 use ring::Hand;
 use stream::Answer;
 use stream::Flags;
-use stream::Gate;
 use stream::Reply;
 use stream::Stream;
 use stream::Submission;
-use turn::silence_front;
-use turn::take_front;
 ghost use mathlib.Core.Bool.{true};
 ghost use mathlib.Core.List.{[]};
 ghost use mathlib.Core.Path.{_≡_};
 ghost use Prim.Native.Nat.{_*_};
 ghost use lib.ListN.{length};
-ghost use Rattle.layout.specs.Opening.{accepted, totalOf};
+ghost use Rattle.layout.specs.Opening.{admissible, totalOf};
 ghost use Rattle.ring.specs.Slots.{holds};
 ghost use Rattle.stream.specs.Sound.{sound};
-ghost use Rattle.ledger.specs.Record.{view, stored, call};
-ghost use Rattle.ledger.specs.Submitted.{acceptedLedger, submitFailed, chained, sent as sentRule, silent as silentRule, submitted as submittedRule};
+ghost use Rattle.ledger.specs.Calls.{Call};
 ghost use Rattle.ledger.specs.Gives.{Gives};
+ghost use Rattle.ledger.specs.Record.{view, stored};
+ghost use Rattle.ledger.specs.Submitted.{acceptedLedger, submitFailed, chained};
+ghost use Rattle.ledger.specs.Submitted.{sent as sentRule, silent as silentRule};
+ghost use Rattle.ledger.specs.Told.{Told};
 
 // Internal: the payload bytes of all slots.
 fn payload_bytes(setup: Setup) -> u64
-    requires { ⌜ accepted setup ≡ true ⌝ }
+    requires { ⌜ admissible setup ≡ true ⌝ }
     ensures { λ r. ⌜ r ≡ setup .slots * setup .«packets_per_urb» * setup .«packet_bytes» ⌝ }
 {
     let bytes = setup.slots * setup.packets_per_urb * setup.packet_bytes;
     bytes as u64
 }
 
-// Internal: the kernel has accepted slot i. The bytes that count are those of its header now: the host may have changed them since the commit.
+// Internal: the kernel has accepted slot i. The bytes that count are those of its header now: the host may have changed
+// them since the commit.
 fn accept(s: Stream, block: &[u8], i: usize) -> Stream
     requires { ⌜ (sound s ≡ true) × (holds (s .hand) i ≡ true) × (length (now block) ≡ totalOf (s .setup)) ⌝ }
     ensures { λ r. ⌜ r ≡ stored s (acceptedLedger (s .setup) i (view s) (now (block .entry))) ⌝ }
@@ -47,17 +53,16 @@ fn accept(s: Stream, block: &[u8], i: usize) -> Stream
     let mut stats = s.stats;
     stats.urbs_submitted = std::num::wrapping_add_u64(stats.urbs_submitted, 1);
     stats.bytes_submitted = std::num::wrapping_add_u64(stats.bytes_submitted, bytes);
-    let ring = was.mark_in_flight(i);
-    Stream {
+    Stream::new(
         setup,
-        ring,
-        hand: Hand::Idle,
-        flags: Flags {
+        was.mark_in_flight(i),
+        Hand::Idle,
+        Flags {
             started,
             armed: true,
         },
         stats,
-    }
+    )
 }
 
 // Internal: the kernel refused slot i, which goes back to the queue.
@@ -67,8 +72,7 @@ fn fail(s: Stream, i: usize, errno: u32) -> Reply
 {
     let bytes = payload_bytes(s.setup);
     let refusal = Error::from_errno(errno, ErrnoContext::Submit { bytes });
-    let back = put_back(s, i);
-    refused(back, refusal)
+    put_back(s, i, Answer::Refused(refusal))
 }
 
 // Internal: after a silent slot was accepted, the chain's next one, or a slot for the host.
@@ -86,7 +90,7 @@ fn chain(s: Stream, block: &mut [u8], left: usize) -> Reply
 // Internal: the reply to a slot of the host's.
 fn sent(s: Stream, reply: Submission, block: &[u8], i: usize) -> Reply
     requires { ⌜ (sound s ≡ true) × (holds (s .hand) i ≡ true) × (length (now block) ≡ totalOf (s .setup)) ⌝ }
-    ensures { λ r. ⌜ Gives s (sentRule (s .setup) reply i (view s) (now (block .entry))) r (now (block .entry)) ⌝ }
+    ensures { λ r. ⌜ Gives s (sentRule reply i (s .setup) (view s) (now (block .entry))) r (now (block .entry)) ⌝ }
 {
     match reply {
         Submission::Accepted => Reply {
@@ -100,7 +104,8 @@ fn sent(s: Stream, reply: Submission, block: &[u8], i: usize) -> Reply
 // Internal: the reply to a silent slot.
 fn silent(s: Stream, reply: Submission, block: &mut [u8], i: usize, left: usize) -> Reply
     requires { ⌜ (sound s ≡ true) × (holds (s .hand) i ≡ true) × (length (now block) ≡ totalOf (s .setup)) ⌝ }
-    ensures { λ r. ⌜ Gives s (silentRule (s .setup) reply i left (view s) (now (block .entry))) r (now (block .exit)) ⌝ }
+    ensures { λ r.
+        ⌜ Gives s (silentRule reply i left (s .setup) (view s) (now (block .entry))) r (now (block .exit)) ⌝ }
 {
     match reply {
         Submission::Accepted => chain(accept(s, block, i), block, left),
@@ -110,9 +115,9 @@ fn silent(s: Stream, reply: Submission, block: &mut [u8], i: usize, left: usize)
 
 // The kernel's answer to the slot in hand is taken: the slot is out, or back in the queue.
 pub fn submitted(s: Stream, reply: Submission, block: &mut [u8]) -> Reply
-    ensures { λ r. ⌜ (r .answer ≡ call (submittedRule reply) s (now (block .entry)) .answer) × (r .stream ≡ call (submittedRule reply) s (now (block .entry)) .stream) × (now (block .exit) ≡ call (submittedRule reply) s (now (block .entry)) .lent) ⌝ }
+    ensures { λ r. ⌜ Told (Call.submitted reply (now (block .entry))) s (r .answer) (r .stream) (now (block .exit)) ⌝ }
 {
-    match s.gate(block.len()) {
+    match block_gate(s, Lent::Block(block.len())) {
         Gate::Refused(e) => refused(s, e),
         Gate::Open => {
             let hand = s.hand;

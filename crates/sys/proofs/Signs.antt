@@ -37,8 +37,11 @@ pub of-bits : (z : ℤ) (k : ℕ) → SFits w32 z → ofZ w32 z ≡ k → z ≡ 
 of-bits z k f e = sym (toZ-ofZ w32 z f) ∙ ap (toZ w32) e
 
 -- a signed number as it is read from the bits that hold it
+pub read-back : (z : ℤ) → mag z < 2 ^ 31 → toZ w32 (ofZ w32 z) ≡ z
+read-back z h = toZ-ofZ w32 z (record { sfits = h })
+
 pub held : (z : ℤ) (n : ℕ) → mag z < 2 ^ 31 → z ≡ signed n → toZ w32 (ofZ w32 z) ≡ signed n
-held z n h e = toZ-ofZ w32 z (record { sfits = h }) ∙ e
+held z n h e = read-back z h ∙ e
 
 -- the number that stands for a signed one that is read from the bits that hold it
 pub stands : (z : ℤ) (n : ℕ) → mag z < 2 ^ 31 → n ≡ unsigned (toZ w32 (ofZ w32 z)) → n ≡ unsigned z

@@ -60,8 +60,8 @@ headerWidths = 1 ∷ 1 ∷ 2 ∷ 4 ∷ 4 ∷ 4 ∷ 8 ∷ 4 ∷ 4 ∷ 4 ∷ 4 ∷
 -- What stands there, padding as zero.
 abbrev pub headerValues : Urb → List ℕ
 headerValues u =
-    u .typ ∷ u .endpoint ∷ 0 ∷ unsigned (u .status) ∷ u .flags ∷ 0 ∷ u .buffer ∷ unsigned (u .«buffer_length») ∷ unsigned (u .«actual_length»)
-    ∷ unsigned (u .«start_frame») ∷ unsigned (u .«number_of_packets») ∷ unsigned (u .«error_count») ∷ u .signr ∷ u .usercontext ∷ []
+    u .typ ∷ u .endpoint ∷ 0 ∷ unsigned (u .status) ∷ u .flags ∷ 0 ∷ u .buffer ∷ unsigned (u .«buffer_length»)
+    ∷ unsigned (u .«actual_length») ∷ unsigned (u .«start_frame») ∷ unsigned (u .«number_of_packets») ∷ unsigned (u .«error_count») ∷ u .signr ∷ u .usercontext ∷ []
 
 -- The header's 56 bytes.
 unfoldable pub headerBytes : Urb → List ℕ
@@ -88,7 +88,8 @@ headerAt at block = record {
 unfoldable pub headerRead : ℕ → List ℕ → UrbRead
 headerRead at block = cond (leb (at + headerSize) (length block)) (Header (headerAt at block)) (Refused BlockLength)
 
--- A slot's header as opening makes it: type 0, the endpoint, flags 2, the buffer's address and length, the packet count and the cookie; all else 0.
+-- A slot's header as opening makes it: type 0, the endpoint, flags 2, the buffer's address and length, the packet count and the cookie; all
+-- else 0.
 abbrev pub slotHeader : ℕ → ℕ → ℤ → ℤ → ℕ → Urb
 slotHeader endpoint buffer bufferLength packets cookie = record {
   typ = 0;

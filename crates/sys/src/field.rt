@@ -1,4 +1,5 @@
-// Little-endian numbers in a lent slice. What reads or writes is internal: it asks for room at its offset, and every caller proves it.
+// Little-endian numbers in a lent slice. What reads or writes is internal: it asks for room at its offset, and
+// every caller proves it.
 ghost use mathlib.Core.Path.{_≡_};
 ghost use Prim.Native.Nat.{_+_, _≤_, _<_, _^_};
 ghost use lib.Dec.{leb};

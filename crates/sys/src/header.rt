@@ -14,7 +14,8 @@ ghost use Prim.Native.Nat.{_+_, _≤_};
 ghost use lib.ListN.{length};
 ghost use Rattle.sys.specs.Bytes.{store, field};
 ghost use Rattle.sys.specs.Signed.{signed};
-ghost use Rattle.sys.specs.Header.{statusAt, bufferLengthAt, actualLengthAt, errorCountAt, cookieAt, headerAt, headerRead, headerBytes, headerSize, slotHeader};
+ghost use Rattle.sys.specs.Header.{statusAt, bufferLengthAt, actualLengthAt, errorCountAt, cookieAt};
+ghost use Rattle.sys.specs.Header.{headerAt, headerRead, headerBytes, headerSize, slotHeader};
 
 // struct usbdevfs_urb without its packet descriptors, which follow it.
 pub struct Urb {

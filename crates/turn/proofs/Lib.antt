@@ -1,4 +1,1 @@
-pub mod Giving
-pub mod Taking
 pub mod Underruns
-pub mod Hands

@@ -1,24 +1,26 @@
 // The call turn: the middle of the Rust's next_slot.
-mod front;
-
 use error::Error;
-pub use front::silence_front;
-pub use front::take_front;
-use hand::refused;
+use front::silence_front;
+use front::take_front;
+use gate::Gate;
+use gate::Lent;
+use gate::idle_gate;
+use gate::refused;
 use layout::Underrun;
-use ring::Hand;
 use stream::Flags;
-use stream::Gate;
 use stream::Reply;
 use stream::Stream;
 ghost use mathlib.Core.Bool.{true};
 ghost use mathlib.Core.Path.{_≡_};
 ghost use lib.ListN.{length};
 ghost use Rattle.layout.specs.Opening.{totalOf};
+ghost use Rattle.ring.specs.declared.Hand.{Hand};
 ghost use Rattle.stream.specs.Sound.{sound};
-ghost use Rattle.ledger.specs.Record.{view, stored, call};
-ghost use Rattle.ledger.specs.Turn.{drained as drainedLedger, underrun, onUnderrun, turnIdle, turn as turnRule};
+ghost use Rattle.ledger.specs.Calls.{Call};
 ghost use Rattle.ledger.specs.Gives.{Gives};
+ghost use Rattle.ledger.specs.Record.{view, stored};
+ghost use Rattle.ledger.specs.Told.{Told};
+ghost use Rattle.ledger.specs.Turn.{drained as drainedLedger, underrun, onUnderrun, turnIdle};
 
 // Internal: whether the stream has drained: started, armed and none out.
 fn drained(s: Stream) -> bool
@@ -35,8 +37,6 @@ fn count_underrun(s: Stream) -> Stream
     requires { ⌜ sound s ≡ true ⌝ }
     ensures { λ r. ⌜ r ≡ stored s (underrun (view s)) ⌝ }
 {
-    let setup = s.setup;
-    let ring = s.ring;
     let hand = s.hand;
     let was = s.flags;
     let flags = Flags {
@@ -45,19 +45,15 @@ fn count_underrun(s: Stream) -> Stream
     };
     let mut stats = s.stats;
     stats.underruns = std::num::wrapping_add_u64(stats.underruns, 1);
-    Stream {
-        setup,
-        ring,
-        hand,
-        flags,
-        stats,
-    }
+    Stream::new(s.setup, s.ring, hand, flags, stats)
 }
 
 // Internal: counts an underrun; then the policy decides.
 fn on_underrun(s: Stream, block: &mut [u8]) -> Reply
     requires { ⌜ (sound s ≡ true) × (s .hand ≡ Hand.Idle) × (length (now block) ≡ totalOf (s .setup)) ⌝ }
-    ensures { λ r. ⌜ Gives s (onUnderrun (s .setup .underrun) (s .setup) (underrun (view s)) (now (block .entry))) r (now (block .exit)) ⌝ }
+    ensures { λ r.
+        ⌜ Gives s (onUnderrun (s .setup .underrun) (s .setup) (underrun (view s)) (now (block .entry)))
+        r (now (block .exit)) ⌝ }
 {
     let counted = count_underrun(s);
     let setup = s.setup;
@@ -83,18 +79,10 @@ fn turn_idle(s: Stream, block: &mut [u8]) -> Reply
 
 // The next slot for the host, or a silent one to submit where the stream has drained and the policy says so.
 pub fn turn(s: Stream, block: &mut [u8]) -> Reply
-    ensures { λ r. ⌜ (r .answer ≡ call turnRule s (now (block .entry)) .answer) × (r .stream ≡ call turnRule s (now (block .entry)) .stream) × (now (block .exit) ≡ call turnRule s (now (block .entry)) .lent) ⌝ }
+    ensures { λ r. ⌜ Told (Call.turn (now (block .entry))) s (r .answer) (r .stream) (now (block .exit)) ⌝ }
 {
-    match s.gate(block.len()) {
+    match idle_gate(s, Lent::Block(block.len())) {
         Gate::Refused(e) => refused(s, e),
-        Gate::Open => {
-            let hand = s.hand;
-            match hand {
-                Hand::Idle => turn_idle(s, block),
-                Hand::Held(_) => refused(s, Error::WrongHand),
-                Hand::Sending(_) => refused(s, Error::WrongHand),
-                Hand::Silent(_, _) => refused(s, Error::WrongHand),
-            }
-        }
+        Gate::Open => turn_idle(s, block),
     }
 }

@@ -1,4 +1,5 @@
-// A header read through a view of its block: the view is taken apart, and the field is read by the header's own function.
+// A header read through a view of its block: the view is taken apart, and the field is read by the header's own
+// function.
 use error::Error;
 use sys::Urb;
 use sys::field::has_room;
@@ -78,7 +79,7 @@ impl<'a> UrbView<'a> {
 }
 
 // Internal: the fields of the header that stands at `at`, each read through one view.
-fn fields(block: &[u8], at: usize) -> UrbFields
+pub fn fields(block: &[u8], at: usize) -> UrbFields
     requires { ⌜ at + headerSize ≤ length (now block) ⌝ }
     ensures { λ r. ⌜ r ≡ fieldsOf (headerAt at (now (block .entry))) ⌝ }
 {

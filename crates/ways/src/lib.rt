@@ -1,21 +1,16 @@
-// Each call by value, or on a record that is lent: the two ways to make it. For the programs of this repository. Either way promises
-// what the call promises.
+// Each call by value, or on a record that is lent: the two ways to make it. For the programs of this repository.
+// Either way promises what the call promises.
 use lent::local;
 use stream::Reaping;
 use stream::Reply;
 use stream::Stream;
 use stream::Submission;
 ghost use mathlib.Core.List.{[]};
-ghost use mathlib.Core.Path.{_≡_};
-ghost use Rattle.ledger.specs.Turn.{turn as turnRule};
-ghost use Rattle.ledger.specs.Commit.{commit as commitRule, commitFull, commitPackets};
-ghost use Rattle.ledger.specs.Submitted.{submitted as submittedRule};
-ghost use Rattle.ledger.specs.Reaped.{reaped as reapedRule};
-ghost use Rattle.ledger.specs.Control.{giveBack, start as startRule, stop as stopRule, finish as finishRule};
-ghost use Rattle.ledger.specs.Record.{call};
+ghost use Rattle.ledger.specs.Calls.{Call};
+ghost use Rattle.ledger.specs.Told.{Told};
 
 pub fn turn(s: Stream, is_lent: bool, block: &mut [u8]) -> Reply
-    ensures { λ r. ⌜ (r .answer ≡ call turnRule s (now (block .entry)) .answer) × (r .stream ≡ call turnRule s (now (block .entry)) .stream) × (now (block .exit) ≡ call turnRule s (now (block .entry)) .lent) ⌝ }
+    ensures { λ r. ⌜ Told (Call.turn (now (block .entry))) s (r .answer) (r .stream) (now (block .exit)) ⌝ }
 {
     if is_lent {
         return local::turn(s, block);
@@ -24,7 +19,7 @@ pub fn turn(s: Stream, is_lent: bool, block: &mut [u8]) -> Reply
 }
 
 pub fn commit(s: Stream, is_lent: bool, bytes: usize, block: &mut [u8]) -> Reply
-    ensures { λ r. ⌜ (r .answer ≡ call (commitRule bytes) s (now (block .entry)) .answer) × (r .stream ≡ call (commitRule bytes) s (now (block .entry)) .stream) × (now (block .exit) ≡ call (commitRule bytes) s (now (block .entry)) .lent) ⌝ }
+    ensures { λ r. ⌜ Told (Call.commit bytes (now (block .entry))) s (r .answer) (r .stream) (now (block .exit)) ⌝ }
 {
     if is_lent {
         return local::commit(s, bytes, block);
@@ -33,7 +28,7 @@ pub fn commit(s: Stream, is_lent: bool, bytes: usize, block: &mut [u8]) -> Reply
 }
 
 pub fn commit_full(s: Stream, is_lent: bool, block: &mut [u8]) -> Reply
-    ensures { λ r. ⌜ (r .answer ≡ call commitFull s (now (block .entry)) .answer) × (r .stream ≡ call commitFull s (now (block .entry)) .stream) × (now (block .exit) ≡ call commitFull s (now (block .entry)) .lent) ⌝ }
+    ensures { λ r. ⌜ Told (Call.commitFull (now (block .entry))) s (r .answer) (r .stream) (now (block .exit)) ⌝ }
 {
     if is_lent {
         return local::commit_full(s, block);
@@ -42,7 +37,9 @@ pub fn commit_full(s: Stream, is_lent: bool, block: &mut [u8]) -> Reply
 }
 
 pub fn commit_packets(s: Stream, is_lent: bool, lengths: &[usize], block: &mut [u8]) -> Reply
-    ensures { λ r. ⌜ (r .answer ≡ call (commitPackets (now (lengths .entry))) s (now (block .entry)) .answer) × (r .stream ≡ call (commitPackets (now (lengths .entry))) s (now (block .entry)) .stream) × (now (block .exit) ≡ call (commitPackets (now (lengths .entry))) s (now (block .entry)) .lent) ⌝ }
+    ensures { λ r.
+        ⌜ Told (Call.commitPackets (now (lengths .entry)) (now (block .entry)))
+        s (r .answer) (r .stream) (now (block .exit)) ⌝ }
 {
     if is_lent {
         return local::commit_packets(s, lengths, block);
@@ -51,7 +48,7 @@ pub fn commit_packets(s: Stream, is_lent: bool, lengths: &[usize], block: &mut [
 }
 
 pub fn submitted(s: Stream, is_lent: bool, reply: Submission, block: &mut [u8]) -> Reply
-    ensures { λ r. ⌜ (r .answer ≡ call (submittedRule reply) s (now (block .entry)) .answer) × (r .stream ≡ call (submittedRule reply) s (now (block .entry)) .stream) × (now (block .exit) ≡ call (submittedRule reply) s (now (block .entry)) .lent) ⌝ }
+    ensures { λ r. ⌜ Told (Call.submitted reply (now (block .entry))) s (r .answer) (r .stream) (now (block .exit)) ⌝ }
 {
     if is_lent {
         return local::submitted(s, reply, block);
@@ -60,7 +57,7 @@ pub fn submitted(s: Stream, is_lent: bool, reply: Submission, block: &mut [u8]) 
 }
 
 pub fn reaped(s: Stream, is_lent: bool, reply: Reaping, block: &[u8]) -> Reply
-    ensures { λ r. ⌜ (r .answer ≡ call (reapedRule reply) s (now (block .entry)) .answer) × (r .stream ≡ call (reapedRule reply) s (now (block .entry)) .stream) × (now (block .entry) ≡ call (reapedRule reply) s (now (block .entry)) .lent) ⌝ }
+    ensures { λ r. ⌜ Told (Call.reaped reply (now (block .entry))) s (r .answer) (r .stream) (now (block .entry)) ⌝ }
 {
     if is_lent {
         return local::reaped(s, reply, block);
@@ -69,7 +66,7 @@ pub fn reaped(s: Stream, is_lent: bool, reply: Reaping, block: &[u8]) -> Reply
 }
 
 pub fn give_back(s: Stream, is_lent: bool) -> Reply
-    ensures { λ r. ⌜ (r .answer ≡ call giveBack s [] .answer) × (r .stream ≡ call giveBack s [] .stream) ⌝ }
+    ensures { λ r. ⌜ Told Call.giveBack s (r .answer) (r .stream) [] ⌝ }
 {
     if is_lent {
         return local::give_back(s);
@@ -78,7 +75,7 @@ pub fn give_back(s: Stream, is_lent: bool) -> Reply
 }
 
 pub fn start(s: Stream, is_lent: bool) -> Reply
-    ensures { λ r. ⌜ (r .answer ≡ call startRule s [] .answer) × (r .stream ≡ call startRule s [] .stream) ⌝ }
+    ensures { λ r. ⌜ Told Call.start s (r .answer) (r .stream) [] ⌝ }
 {
     if is_lent {
         return local::start(s);
@@ -87,7 +84,7 @@ pub fn start(s: Stream, is_lent: bool) -> Reply
 }
 
 pub fn stop(s: Stream, is_lent: bool, list: &mut [usize]) -> Reply
-    ensures { λ r. ⌜ (r .answer ≡ call stopRule s (now (list .entry)) .answer) × (r .stream ≡ call stopRule s (now (list .entry)) .stream) × (now (list .exit) ≡ call stopRule s (now (list .entry)) .lent) ⌝ }
+    ensures { λ r. ⌜ Told (Call.stop (now (list .entry))) s (r .answer) (r .stream) (now (list .exit)) ⌝ }
 {
     if is_lent {
         return local::stop(s, list);
@@ -96,7 +93,7 @@ pub fn stop(s: Stream, is_lent: bool, list: &mut [usize]) -> Reply
 }
 
 pub fn finish(s: Stream, is_lent: bool) -> Reply
-    ensures { λ r. ⌜ (r .answer ≡ call finishRule s [] .answer) × (r .stream ≡ call finishRule s [] .stream) ⌝ }
+    ensures { λ r. ⌜ Told Call.finish s (r .answer) (r .stream) [] ⌝ }
 {
     if is_lent {
         return local::finish(s);

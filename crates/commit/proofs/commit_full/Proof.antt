@@ -1,47 +1,55 @@
--- `commit::commit_full` meets its contract: the first tests refuse, or leave the slot in hand to commit's rule with the capacity.
+-- `commit::commit_full` meets its contract: the gate refuses, or leaves the slot in hand to commit's rule with the capacity.
 -- Assumes nothing.
-use mathlib.Core.Path.{sym, _∙_}
+use mathlib.Core.Path.{_≡_, refl, sym, _∙_}
+use Prim.Native.Nat.{ℕ}
 use borrow.Author.Needs.{needs}
-use denote.Ref.{now}
-use Rattle.ring.proofs.Wide.{Wide, table-long}
-use Rattle.stream.proofs.Soundness.{setup-accepted}
-use Rattle.ledger.specs.Block.{capacityOf}
-use Rattle.ledger.specs.Commit.{commit, commitFull, commitHeld}
-use Rattle.commit.proofs.Calls.{slot-held, slot-told, slot-refused}
+use lib.ListN.{length}
+use Rattle.layout.specs.Opening.{capacityOf}
+use Rattle.stream.proofs.Arrays.{arrays}
+use Rattle.stream.proofs.Soundness.{setup-admissible}
+use Rattle.ledger.specs.Calls.{commitFull, rule, lentTo}
+use Rattle.ledger.specs.Commit as Commit
+use Rattle.ledger.specs.Step.{onBlock, whenHeld}
+use Rattle.gate.specs.declared.InHand.{InHand}
+use Rattle.gate.specs.declared.Lent.{Lent}
+use Rattle.gate.specs.Gate.{heldGate}
+use Rattle.gate.proofs.Gates.{held-open, held-refused, held-told}
 use Rattle.commit.proofs.commit_full.Statement.{statement}
 use Rattle.commit.proofs.commit_full.Tie as tie
 
-wide : (c : tie.Start) → Wide (c .args .s .ring)
-wide c = record { table = search (needs, table-long); places = search needs }
+-- the gate is open
+opened : (c : tie.After-i) → let a = c .before .before .before .before .args in heldGate (a .s) (Lent.Block (length (a .block .now))) ≡ InHand.Slot (c .i .given .0 .0)
+opened c = sym (c .before .before .held-gate .ensures) ∙ c .i .given .1
 
 slot-capacity-requires : tie.Need-slot-capacity-requires
 slot-capacity-requires c κs =
-    let i = c .before .before in
-    setup-accepted _ (slot-held _ _ _ (sym (i .before .before .slot-in-hand .ensures) ∙ i .i .given .1) .0)
+    let slot = c .before .before in
+    let a = slot .before .before .before .before .args in
+    setup-admissible (a .s) (held-open (a .s) (Lent.Block _) (a .block .now) refl _ (opened slot) .0)
 
 commit-held-requires : tie.Need-commit-held-requires
 commit-held-requires c κs =
-    let i = c .before .before .before .before in
-    slot-held _ _ _ (sym (i .before .before .slot-in-hand .ensures) ∙ i .i .given .1)
+    let slot = c .before .before .before .before in
+    let a = slot .before .before .before .before .args in
+    held-open (a .s) (Lent.Block _) (a .block .now) refl _ (opened slot)
 
 returns : tie.Need-returns
-unfolding commitFull commit
+unfolding rule lentTo Commit.commitFull Commit.commit onBlock whenHeld
 returns c =
     let done = c .before .before in
     let all = done .before .before in
-    let i = all .before .before .before in
-    let d = i .before .before .before .before in
-    slot-told (λ st k l b. commitHeld st (capacityOf st) k l b) (d .args .s) (now (d .args .block)) _
-    (sym (i .before .before .slot-in-hand .ensures) ∙ i .i .given .1)
-    _ _ (rw (all .slot-capacity .ensures) at (done .commit-held .ensures))
+    let slot = all .before .before .before in
+    let a = slot .before .before .before .before .args in
+    held-told (a .s) (Lent.Block _) (commitFull (a .block .now)) (λ i st. Commit.commitHeld (capacityOf st) i st) refl refl _ (opened slot) _ _
+    (rw (all .slot-capacity .ensures) at (done .commit-held .ensures))
 
 returns-2 : tie.Need-returns-2
-unfolding commitFull commit
+unfolding rule lentTo Commit.commitFull Commit.commit onBlock whenHeld
 returns-2 c =
-    let d = c .before .before .before .before .before .before in
-    rw (c .refused .ensures)
-    (slot-refused (λ st k l b. commitHeld st (capacityOf st) k l b) (d .args .s) (now (d .args .block)) (wide d) _
-    (sym (c .before .before .before .before .slot-in-hand .ensures) ∙ c .before .before .e .given .1))
+    let e = c .before .before in
+    let d = e .before .before .before .before in
+    held-refused (d .args .s) (Lent.Block _) (commitFull (d .args .block .now)) (λ i st. Commit.commitHeld (capacityOf st) i st) refl refl
+    (arrays (d .args .s) (d .good .0)) _ (sym (e .before .before .held-gate .ensures) ∙ e .e .given .1) _ (c .refused .ensures)
 
 pub commit-full-spec : {M : Type 1} → statement M
 commit-full-spec =

@@ -3,27 +3,29 @@
 use native.Mathlib.Omega.{arith}
 use borrow.Author.Needs.{needs}
 use Rattle.error.specs.declared.Error.{Error}
-use Rattle.ring.proofs.Wide.{Wide, table-long}
-use Rattle.stream.proofs.Soundness.{setup-accepted}
+use Rattle.ring.proofs.Wide.{Wide}
+use Rattle.stream.proofs.Arrays.{arrays}
+use Rattle.stream.specs.declared.Answer.{Answer}
+use Rattle.stream.proofs.Soundness.{setup-admissible}
 use Rattle.ledger.proofs.InHand.{holding, slot-below}
 use Rattle.commit.proofs.Ends.{ends-back, ends-sent, too-long, fits}
 use Rattle.commit.proofs.commit_held.Statement.{statement}
 use Rattle.commit.proofs.commit_held.Tie as tie
 
 wide : (c : tie.Start) → Wide (c .args .s .ring)
-wide c = record { table = search (needs, table-long); places = search needs }
+wide c = arrays (c .args .s) (c .good .0)
 
 returns : tie.Need-returns
 returns c =
     let d = c .before .before .before .before .before in
-    ends-back (d .args .s) (d .args .i) _ _ _ Error.CommitTooLong
+    ends-back (d .args .s) (d .args .i) _ _ _ (Answer.Refused Error.CommitTooLong)
     (too-long _ _ _ _ _ (rw (c .before .before .slot-capacity .ensures) at (c .before .if1 .taken)))
     (c .put-back .ensures)
 
 set-packet-lengths-requires : tie.Need-set-packet-lengths-requires
 set-packet-lengths-requires c κs =
     let d = c .before .before .before .before .before in (
-      setup-accepted (d .args .s) (d .pre .0),
+      setup-admissible (d .args .s) (d .pre .0),
       slot-below (d .args .s) (d .pre .0) (wide d) (d .args .i) (holding _ _ (d .pre .1)),
       d .pre .2,
       omega (arith, c .before .before .slot-capacity .ensures),
@@ -43,8 +45,8 @@ pub commit-held-spec : {M : Type 1} → statement M
 commit-held-spec =
     tie.close
     (tie.spec
-    (λ c κs. setup-accepted (c .before .before .args .s) (c .before .before .pre .0))
-    (λ c κs. search needs)
+    (λ c κs. setup-admissible (c .before .before .args .s) (c .before .before .pre .0))
+    (λ c κs. let d = c .before .before .before .before in (d .pre .0, holding _ _ (d .pre .1)))
     returns
     set-packet-lengths-requires
     (λ c κs. search needs)

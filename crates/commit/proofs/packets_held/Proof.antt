@@ -3,26 +3,28 @@
 use mathlib.Core.Path.{sym, _∙_}
 use borrow.Author.Needs.{needs}
 use Rattle.error.specs.declared.Error.{Error}
-use Rattle.ring.proofs.Wide.{Wide, table-long}
-use Rattle.stream.proofs.Soundness.{setup-accepted}
+use Rattle.ring.proofs.Wide.{Wide}
+use Rattle.stream.proofs.Arrays.{arrays}
+use Rattle.stream.specs.declared.Answer.{Answer}
+use Rattle.stream.proofs.Soundness.{setup-admissible}
 use Rattle.ledger.proofs.InHand.{holding, slot-below}
 use Rattle.commit.proofs.Ends.{ends-back, ends-sent, wrong-count, one-above, none-above}
 use Rattle.commit.proofs.packets_held.Statement.{statement}
 use Rattle.commit.proofs.packets_held.Tie as tie
 
 wide : (c : tie.Start) → Wide (c .args .s .ring)
-wide c = record { table = search (needs, table-long); places = search needs }
+wide c = arrays (c .args .s) (c .good .0)
 
 returns : tie.Need-returns
 returns c =
     let d = c .before .before .before .before .before .before in
-    ends-back (d .args .s) (d .args .i) _ _ _ Error.PacketCount (wrong-count _ _ _ _ _ (c .before .if1 .taken)) (c .put-back .ensures)
+    ends-back (d .args .s) (d .args .i) _ _ _ (Answer.Refused Error.PacketCount) (wrong-count _ _ _ _ _ (c .before .if1 .taken)) (c .put-back .ensures)
 
 returns-2 : tie.Need-returns-2
 returns-2 c =
     let if1 = c .before .before .before in
     let d = if1 .before .before .before .before .before in
-    ends-back (d .args .s) (d .args .i) _ _ _ Error.PacketTooLong
+    ends-back (d .args .s) (d .args .i) _ _ _ (Answer.Refused Error.PacketTooLong)
     (one-above _ _ _ _ _ (if1 .if1 .left) (sym (c .before .before .any-above .ensures) ∙ c .before .if2 .taken))
     (c .put-back2 .ensures)
 
@@ -30,7 +32,7 @@ set-packet-lengths-exact-requires : tie.Need-set-packet-lengths-exact-requires
 set-packet-lengths-exact-requires c κs =
     let if1 = c .before .before .before in
     let d = if1 .before .before .before .before .before in (
-      (setup-accepted (d .args .s) (d .pre .0), slot-below (d .args .s) (d .pre .0) (wide d) (d .args .i) (holding _ _ (d .pre .1)), d .pre .2),
+      (setup-admissible (d .args .s) (d .pre .0), slot-below (d .args .s) (d .pre .0) (wide d) (d .args .i) (holding _ _ (d .pre .1)), d .pre .2),
       (if1 .if1 .left, sym (c .before .before .any-above .ensures) ∙ c .before .if2 .left),
     )
 
@@ -49,10 +51,10 @@ pub packets-held-spec : {M : Type 1} → statement M
 packets-held-spec =
     tie.close
     (tie.spec
-    (λ c κs. search needs)
+    (λ c κs. let d = c .before .before .before .before .before in (d .pre .0, holding _ _ (d .pre .1)))
     returns
     (λ c κs. search needs)
-    (λ c κs. search needs)
+    (λ c κs. let d = c .before .before .before .before .before .before .before in (d .pre .0, holding _ _ (d .pre .1)))
     returns-2
     set-packet-lengths-exact-requires
     (λ c κs. search needs)

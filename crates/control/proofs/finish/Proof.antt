@@ -1,41 +1,55 @@
 -- `control::finish` meets its contract: refused by the gate; else the rule leaves the ledger as it was, and its answer goes by the
 -- out count, which a sound record has right. Assumes nothing.
-use mathlib.Core.Path.{_≡_, refl}
+use mathlib.Core.Path.{_≡_, refl, sym, _∙_}
 use mathlib.Core.Bool.{true, false}
-use mathlib.Core.List.{[]}
 use borrow.Author.Needs.{needs}
 use borrow.Author.Tests.{eq-eqb, ne-eqb}
-use Rattle.ring.specs.declared.Hand.{Hand}
-use Rattle.ring.proofs.Wide.{Wide, table-long}
+use Rattle.ring.proofs.Wide.{Wide}
 use Rattle.stream.specs.Sound.{sound}
-use Rattle.ledger.specs.Control.{finish}
-use Rattle.control.proofs.Replies.{replied}
-use Rattle.control.proofs.Idle.{idle-passed, idle-refused}
+use Rattle.stream.proofs.Arrays.{arrays}
+use Rattle.ledger.specs.Calls.{finish, rule, lentTo}
+use Rattle.ledger.specs.Control as Control
+use Rattle.gate.specs.declared.Gate.{Gate}
+use Rattle.gate.specs.declared.Lent.{Lent}
+use Rattle.gate.specs.Gate.{idleGate}
+use Rattle.gate.proofs.Gates.{idle-open, idle-refused, idle-told}
 use Rattle.control.proofs.Unmoved.{finished}
 use Rattle.control.proofs.finish.Statement.{statement}
 use Rattle.control.proofs.finish.Tie as tie
 
-wide : (c : tie.Start) → Wide (c .args .s .ring)
-wide c = record { table = search (needs, table-long); places = search needs }
+-- the gate is open
+opened : (c : tie.After-enum-told) → idleGate (c .before .before .before .args .s) Lent.Nothing ≡ Gate.Open
+opened c = sym (c .before .before .idle-gate .ensures) ∙ c .enum-told .given .1
 
-passed : (c : tie.After-enum-told) → (sound (c .before .before .before .args .s) ≡ true) × (c .before .before .before .args .s .hand ≡ Hand.Idle)
-passed c = idle-passed _ _ (c .before .before .idle-gate .ensures) (c .enum-told .given .1)
+-- what the rule asks of the record
+known : (c : tie.After-enum-told) → let s = c .before .before .before .args .s in (sound s ≡ true) × Wide (s .ring)
+known c =
+    let d = c .before .before .before in
+    (idle-open (d .args .s) Lent.Nothing (lentTo finish) tt (opened c) .0, arrays (d .args .s) (d .good .0))
 
 returns : tie.Need-returns
-unfolding finish
+unfolding rule lentTo Control.finish
 returns c =
-    let d = c .before .before .before .before .before in
-    replied _ (c .refused .ensures) (idle-refused _ _ (c .before .before .before .before .idle-gate .ensures) _ [] (wide d) _ (c .before .before .e .given .1))
+    let e = c .before .before in
+    let d = e .before .before .before in
+    idle-refused (d .args .s) Lent.Nothing finish Control.finishIdle refl tt (arrays (d .args .s) (d .good .0)) _
+    (sym (e .before .before .idle-gate .ensures) ∙ e .e .given .1) _ (c .refused .ensures)
 
 returns-2 : tie.Need-returns-2
+unfolding rule lentTo Control.finish
 returns-2 c =
-    let d = c .before .before .before in
-    replied _ refl (finished _ (passed d .0) (wide (d .before .before .before)) (passed d .1) true (eq-eqb _ _ (c .if1 .taken)))
+    let told = c .before .before .before in
+    let s = told .before .before .before .args .s in
+    idle-told s Lent.Nothing finish Control.finishIdle refl tt (opened told) _ _
+    (finished s (known told .0) (known told .1) true (eq-eqb _ _ (c .if1 .taken)) _ refl)
 
 returns-3 : tie.Need-returns-3
+unfolding rule lentTo Control.finish
 returns-3 c =
-    let d = c .before .before .before .before in
-    replied _ (c .refused2 .ensures) (finished _ (passed d .0) (wide (d .before .before .before)) (passed d .1) false (ne-eqb _ _ (c .before .if1 .left)))
+    let told = c .before .before .before .before in
+    let s = told .before .before .before .args .s in
+    idle-told s Lent.Nothing finish Control.finishIdle refl tt (opened told) _ _
+    (finished s (known told .0) (known told .1) false (ne-eqb _ _ (c .before .if1 .left)) _ (c .refused2 .ensures))
 
 pub finish-spec : {M : Type 1} → statement M
 finish-spec =

@@ -1,74 +1,49 @@
--- `control::give_back` meets its contract: refused for an unsound record and, knowing the case of the hand, for a wrong hand; else the
--- slot that it holds is put back. Assumes nothing.
+-- `control::give_back` meets its contract: refused by the gate, or the slot in hand is put back.
+-- Assumes nothing.
 use mathlib.Core.Path.{_≡_, refl, sym, _∙_}
-use mathlib.Core.Bool.{true}
-use mathlib.Core.List.{[]}
 use borrow.Author.Needs.{needs}
-use borrow.Author.Tests.{eq-eqb, not-true, not-false}
-use Rattle.ring.specs.Slots.{holds}
-use Rattle.ring.proofs.Wide.{Wide, table-long}
-use Rattle.stream.specs.Sound.{sound}
-use Rattle.ledger.specs.Step.{onHeld}
-use Rattle.ledger.specs.Control.{giveBack}
-use Rattle.ledger.proofs.Calls.{call-unsound}
-use Rattle.control.proofs.Replies.{replied}
-use Rattle.control.proofs.Handed.{given-back, not-held}
+use Rattle.stream.proofs.Arrays.{arrays}
+use Rattle.ledger.specs.Calls.{giveBack, rule, lentTo}
+use Rattle.ledger.specs.Control as Control
+use Rattle.ledger.proofs.InHand.{holding}
+use Rattle.gate.specs.declared.InHand.{InHand}
+use Rattle.gate.specs.declared.Lent.{Lent}
+use Rattle.gate.specs.Gate.{heldGate}
+use Rattle.gate.proofs.Gates.{held-open, held-refused, held-told}
 use Rattle.control.proofs.give_back.Statement.{statement}
 use Rattle.control.proofs.give_back.Tie as tie
 
-wide : (c : tie.Start) → Wide (c .args .s .ring)
-wide c = record { table = search (needs, table-long); places = search needs }
-
-passed : (c : tie.Else1) → sound (c .before .before .args .s) ≡ true
-passed c = sym (c .before .sound .ensures) ∙ not-false _ (c .if1 .left)
+-- the gate is open
+opened : (c : tie.After-i) → heldGate (c .before .before .before .args .s) Lent.Nothing ≡ InHand.Slot (c .i .given .0 .0)
+opened c = sym (c .before .before .held-gate .ensures) ∙ c .i .given .1
 
 put-back-requires : tie.Need-put-back-requires
-unfolding holds
-put-back-requires c κs = (passed (c .before .before .before), rw (c .before .hand .given .1, eq-eqb _ _ refl))
+put-back-requires c κs =
+    let known = held-open (c .before .before .before .before .args .s) Lent.Nothing (lentTo giveBack) tt _ (opened (c .before)) in
+    (known .0, holding _ _ (known .1))
 
 returns : tie.Need-returns
+unfolding rule lentTo Control.giveBack Control.giveBackHeld
 returns c =
-    replied _ (c .refused .ensures) (call-unsound giveBack _ [] (sym (c .before .before .sound .ensures) ∙ not-true _ (c .before .if1 .taken)))
+    let slot = c .before .before in
+    held-told (slot .before .before .before .args .s) Lent.Nothing giveBack Control.giveBackHeld refl tt _ (opened slot) _ _ (c .put-back .ensures)
 
 returns-2 : tie.Need-returns-2
-unfolding onHeld
+unfolding rule lentTo Control.giveBack
 returns-2 c =
-    let d = c .before .before .before in
-    replied _ (c .refused2 .ensures) (not-held _ (passed d) (wide (d .before .before)) _ (c .before .enum-told .given .1) (λ next wrong. refl))
-
-returns-3 : tie.Need-returns-3
-returns-3 c =
-    let d = c .before .before .before .before in
-    replied _ refl (given-back _ (passed d) _ (c .before .before .hand .given .1) _ (c .put-back .ensures))
-
-returns-4 : tie.Need-returns-4
-unfolding onHeld
-returns-4 c =
-    let d = c .before .before .before in
-    replied _ (c .refused3 .ensures) (not-held _ (passed d) (wide (d .before .before)) _ (c .before .enum-told2 .given .1) (λ next wrong. refl))
-
-returns-5 : tie.Need-returns-5
-unfolding onHeld
-returns-5 c =
-    let d = c .before .before .before in
-    replied _ (c .refused4 .ensures) (not-held _ (passed d) (wide (d .before .before)) _ (c .before .enum-told3 .given .1) (λ next wrong. refl))
+    let e = c .before .before in
+    let d = e .before .before .before in
+    held-refused (d .args .s) Lent.Nothing giveBack Control.giveBackHeld refl tt (arrays (d .args .s) (d .good .0)) _
+    (sym (e .before .before .held-gate .ensures) ∙ e .e .given .1) _ (c .refused .ensures)
 
 pub give-back-spec : {M : Type 1} → statement M
 give-back-spec =
     tie.close
     (tie.spec
     (λ c κs. search needs)
-    (λ c κs. search needs)
-    returns
-    (λ c. search needs)
-    (λ c κs. search needs)
     (λ c. search needs)
     put-back-requires
     (λ c. search needs)
     (λ c κs. search needs)
-    (λ c. search needs)
-    (λ c κs. search needs)
-    returns-2
-    returns-3
-    returns-4
-    returns-5)
+    returns
+    returns-2)

@@ -1,59 +1,69 @@
 -- `control::stop` meets its contract: refused by the gate; else the walk finds how many slots are listed, a shorter list is refused with the
 -- record as it was, and one that is long enough gets their numbers. Assumes nothing.
-use mathlib.Core.Path.{_≡_, refl}
+use mathlib.Core.Path.{_≡_, refl, sym, _∙_}
 use mathlib.Core.Bool.{true}
 use borrow.Author.Needs.{needs}
-use denote.Ref.{now}
-use Rattle.ring.specs.declared.Hand.{Hand}
-use Rattle.ring.proofs.Wide.{Wide, table-long}
+use Rattle.ring.proofs.Wide.{Wide}
 use Rattle.stream.specs.Sound.{sound}
-use Rattle.ledger.specs.Control.{stop}
+use Rattle.stream.proofs.Arrays.{arrays}
+use Rattle.ledger.specs.Calls.{stop, rule, lentTo}
+use Rattle.ledger.specs.Control as Control
 use Rattle.ledger.proofs.View.{facts}
-use Rattle.control.proofs.Replies.{replied-list}
-use Rattle.control.proofs.Idle.{idle-passed, idle-refused}
+use Rattle.gate.specs.declared.Gate.{Gate}
+use Rattle.gate.specs.declared.Lent.{Lent}
+use Rattle.gate.specs.Gate.{idleGate}
+use Rattle.gate.proofs.Gates.{idle-open, idle-refused, idle-told}
 use Rattle.control.proofs.Stopped.{count-fits, too-short, all-stopped}
 use Rattle.control.proofs.stop.Statement.{statement}
 use Rattle.control.proofs.stop.Tie as tie
 
-wide : (c : tie.Start) → Wide (c .args .s .ring)
-wide c = record { table = search (needs, table-long); places = search needs }
+-- the gate is open
+opened : (c : tie.After-enum-told) → idleGate (c .before .before .before .before .args .s) Lent.Nothing ≡ Gate.Open
+opened c = sym (c .before .before .idle-gate .ensures) ∙ c .enum-told .given .1
 
-passed : (c : tie.After-enum-told) → (sound (c .before .before .before .before .args .s) ≡ true) × (c .before .before .before .before .args .s .hand ≡ Hand.Idle)
-passed c = idle-passed _ _ (c .before .before .idle-gate .ensures) (c .enum-told .given .1)
+-- what the rule and the walk ask of the record
+known : (c : tie.After-enum-told) → let s = c .before .before .before .before .args .s in (sound s ≡ true) × Wide (s .ring)
+known c =
+    let d = c .before .before .before .before in
+    (idle-open (d .args .s) Lent.Nothing (d .args .list .now) tt (opened c) .0, arrays (d .args .s) (d .good .0))
 
 discard-all-requires : tie.Need-discard-all-requires
-discard-all-requires c κs =
-    let d = c .before .before in
-    facts _ (passed d .0) (wide (d .before .before .before .before)) .few
+discard-all-requires c κs = let k = known (c .before) in facts _ (k .0) (k .1) .few
 
 returns : tie.Need-returns
+unfolding rule lentTo Control.stop
 returns c =
-    let found = c .before .before .before .before in
-    let d = found .before .before .before in
-    replied-list _ (c .refused2 .ensures)
-    (too-short _ (passed d .0) (wide (d .before .before .before .before)) _ (found .discard-all .ensures) (passed d .1) _ (c .before .if1 .taken))
+    let found = c .before .before .before in
+    let told = found .before .before in
+    let a = told .before .before .before .before .args in
+    idle-told (a .s) Lent.Nothing (stop (a .list .now)) Control.stopIdle refl tt (opened told) _ _
+    (too-short (a .s) (known told .0) (known told .1) _ (found .discard-all .ensures) (a .list .now) (c .before .if1 .taken) _ (c .refused2 .ensures))
 
 write-list-requires : tie.Need-write-list-requires
 write-list-requires c κs =
-    let found = c .before .before .before .before in
-    let d = found .before .before .before in
-    (count-fits _ (passed d .0) (wide (d .before .before .before .before)) _ (found .discard-all .ensures), c .before .if1 .left)
+    let found = c .before .before .before in
+    let k = known (found .before .before) in
+    (count-fits _ (k .0) (k .1) _ (found .discard-all .ensures), c .before .if1 .left)
 
 returns-2 : tie.Need-returns-2
-unfolding stop
+unfolding rule lentTo Control.stop
 returns-2 c =
-    let d = c .before .before .before .before .before .before in
-    replied-list _ (c .refused .ensures)
-    (idle-refused _ _ (c .before .before .before .before .idle-gate .ensures) _ (now (d .args .list)) (wide d) _ (c .before .before .e .given .1))
+    let e = c .before .before in
+    let d = e .before .before .before .before in
+    idle-refused (d .args .s) Lent.Nothing (stop (d .args .list .now)) Control.stopIdle refl tt (arrays (d .args .s) (d .good .0)) _
+    (sym (e .before .before .idle-gate .ensures) ∙ e .e .given .1) _ (c .refused .ensures)
 
 returns-3 : tie.Need-returns-3
+unfolding rule lentTo Control.stop
 returns-3 c =
-    let found = c .before .before .before .before .before .before .before in
-    let d = found .before .before .before in
-    replied-list _ refl
-    (all-stopped _ (passed d .0) (wide (d .before .before .before .before)) _ (found .discard-all .ensures) (passed d .1) _
-    (c .before .before .before .before .if1 .left) _ (c .before .before .before .before .before .with-state .ensures)
-    _ (c .before .before .write-list .ensures))
+    let written = c .before .before .before in
+    let tested = written .before .before in
+    let found = tested .before .before in
+    let told = found .before .before in
+    let a = told .before .before .before .before .args in
+    idle-told (a .s) Lent.Nothing (stop (a .list .now)) Control.stopIdle refl tt (opened told) _ _
+    (all-stopped (a .s) (known told .0) (known told .1) _ (found .discard-all .ensures) (a .list .now) (tested .if1 .left)
+    _ (c .with-flags .ensures) _ (written .write-list .ensures))
 
 pub stop-spec : {M : Type 1} → statement M
 stop-spec =
@@ -65,9 +75,9 @@ stop-spec =
     (λ c. search needs)
     discard-all-requires
     (λ c κs. search needs)
-    (λ c κs. search needs)
     returns
     write-list-requires
+    (λ c κs. search needs)
     returns-2
     (λ c. search needs)
     returns-3)

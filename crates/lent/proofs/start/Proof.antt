@@ -1,8 +1,6 @@
 -- control::start by value, on a lent record: the shape with no other parameter. Assumes nothing.
-use mathlib.Core.List.{[]}
 use contract.Monad.{fact-mono}
-use Rattle.ledger.specs.Control.{start}
-use Rattle.ledger.specs.Record.{call}
+use Rattle.ledger.specs.Calls.{Call}
 use Rattle.control.proofs.start.Met.{met}
 use Rattle.control.proofs.start.Symbol as called
 use Rattle.lent_shapes.proofs.Shapes.{alone-lent}
@@ -14,5 +12,5 @@ use Rattle.lent.proofs.start.Statement.{statement}
 pub start-spec : {M : Type 1} → statement M
 unfolding code.routine
 start-spec 𝓤 H 𝓜 𝓖 𝓡 =
-    alone-lent 𝓤 H 𝓜 𝓖 𝓡 code.env name called.name called.routine code.calls-control·start (λ s. call start s []) (code.unfolded 𝓤 H 𝓜 𝓡) (met 𝓤 H 𝓜 𝓖 𝓡)
+    alone-lent 𝓤 H 𝓜 𝓖 𝓡 code.env name called.name called.routine code.calls-control·start Call.start (code.unfolded 𝓤 H 𝓜 𝓡) (met 𝓤 H 𝓜 𝓖 𝓡)
     (own.clauses 𝓤 H (𝓖 .A) (𝓜 .mem) (𝓡 .run)) (λ κs a g r e. fact-mono 𝓤 _ _ (λ told. told))

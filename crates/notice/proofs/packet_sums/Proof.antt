@@ -7,8 +7,8 @@ use native.Mathlib.Omega.{arith}
 use borrow.Author.Needs.{needs}
 use Rattle.sys.specs.declared.descriptor.IsoPacketDesc.{IsoPacketDesc}
 use Rattle.sys.specs.Descriptor.{descSize}
-use Rattle.ledger.specs.Block
-use Rattle.ledger.specs.Block.{packetsAt}
+use Rattle.ledger.specs.Notice as Notice
+use Rattle.ledger.specs.Notice.{packetsAt}
 use Rattle.notice.specs.Sums.{sumsOf}
 use Rattle.notice.proofs.Packets.{requested-next, short-next, requested-end, short-end}
 use Rattle.notice.proofs.packet_sums.Statement.{statement}
@@ -18,8 +18,8 @@ abbrev Inv-loop : tie.InvT-loop
 Inv-loop descs packets requested₀ short₀ k₀ requested short k =
     (requested ≤ 4294967295 * k)
     × (short ≤ 4294967295 * k)
-    × (requested + Block.requested (packetsAt (packets - k) (descSize * k) descs) ≡ Block.requested (packetsAt packets 0 descs))
-    × (short + Block.short (packetsAt (packets - k) (descSize * k) descs) ≡ Block.short (packetsAt packets 0 descs))
+    × (requested + Notice.requested (packetsAt (packets - k) (descSize * k) descs) ≡ Notice.requested (packetsAt packets 0 descs))
+    × (short + Notice.short (packetsAt (packets - k) (descSize * k) descs) ≡ Notice.short (packetsAt packets 0 descs))
 
 abbrev μ-loop : tie.MeasureT-loop
 μ-loop descs packets requested₀ short₀ k₀ requested short k = packets - k
@@ -42,8 +42,8 @@ returns c =
     let start = c .before .before .before in
     let no-requested = requested-end (start .args .packets) (loop .k) (start .args .descs .now) (c .loop-test .left) in
     let no-short = short-end (start .args .packets) (loop .k) (start .args .descs .now) (c .loop-test .left) in
-    let requested-is : loop .requested ≡ Block.requested (packetsAt (start .args .packets) 0 (start .args .descs .now)) = omega arith in
-    let short-is : loop .short ≡ Block.short (packetsAt (start .args .packets) 0 (start .args .descs .now)) = omega arith in
+    let requested-is : loop .requested ≡ Notice.requested (packetsAt (start .args .packets) 0 (start .args .descs .now)) = omega arith in
+    let short-is : loop .short ≡ Notice.short (packetsAt (start .args .packets) 0 (start .args .descs .now)) = omega arith in
     λ i. record { requested = requested-is i; short = short-is i }
 
 pub packet-sums-spec : {M : Type 1} → statement M

@@ -3,9 +3,12 @@
 use mathlib.Core.Path.{_≡_, sym, ap}
 use Prim.Native.Nat.{_+_, _*_, _/_, _≤_}
 use native.Mathlib.Omega.{arith}
+use Rattle.sys.specs.Header.{headerAt}
 use Rattle.layout.specs.declared.RingLayout.{RingLayout}
 use Rattle.layout.specs.Opening.{layoutFor}
-use Rattle.layout.proofs.Acceptance.{accepts}
+use Rattle.layout.proofs.Admission.{admits}
+use Rattle.urb_view.specs.declared.UrbFields.{UrbFields}
+use Rattle.urb_view.specs.Viewed.{fieldsOf}
 use Rattle.notice.proofs.Offsets.{Strided, strided, header-within, past, between, stranger, named}
 use Rattle.notice.proofs.slot_at.Statement.{statement}
 use Rattle.notice.proofs.slot_at.Tie as tie
@@ -22,11 +25,16 @@ within : (c : tie.Else1)
     ≤ c .before .before .before .before .args .setup .slots * c .before .before .layout-of .result .«slot_stride»
 within c = header-within _ _ _ (omega (arith, known (c .before))) (c .if1 .left)
 
+-- the cookie is that of the header there
+cookie : (c : tie.After-fields) → let d = c .before .before .before in let stride = d .before .layout-of .result .«slot_stride» in let a = d .before .before .before .args in c .fields .result .usercontext ≡ headerAt (a .offset / stride * stride) (a .block .now) .usercontext
+unfolding fieldsOf
+cookie c = ap (λ (u : UrbFields). u .usercontext) (c .fields .ensures)
+
 pub slot-at-spec : {M : Type 1} → statement M
 slot-at-spec =
     tie.close
     (tie.spec
-    (λ c κs. accepts _ (c .before .pre .0) .limits)
+    (λ c κs. admits _ (c .before .pre .0) .limits)
     (λ c. omega (arith, known c))
     (λ c. past _ _ _ _ (is (c .before)) (c .if1 .taken))
     (λ c. omega (arith, known (c .before)))
@@ -35,8 +43,10 @@ slot-at-spec =
     (λ c. omega (arith, known (c .before .before), within (c .before)))
     (λ c κs. omega (arith, known (c .before .before), within (c .before)))
     (λ c.
-    let test = c .before .before in
-    stranger _ _ _ _ (is (test .before .before)) (test .before .if1 .left) (test .if2 .left) _ (c .before .usercontext-at .ensures) (c .if3 .taken))
+    let read = c .before .before in
+    let test = read .before in
+    stranger _ _ _ _ (is (test .before .before)) (test .before .if1 .left) (test .if2 .left) _ (cookie read) (c .if3 .taken))
     (λ c.
-    let test = c .before .before in
-    named _ _ _ _ (is (test .before .before)) (test .before .if1 .left) (test .if2 .left) _ (c .before .usercontext-at .ensures) (c .if3 .left)))
+    let read = c .before .before in
+    let test = read .before in
+    named _ _ _ _ (is (test .before .before)) (test .before .if1 .left) (test .if2 .left) _ (cookie read) (c .if3 .left)))

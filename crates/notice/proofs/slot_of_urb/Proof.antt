@@ -8,7 +8,7 @@ use borrow.Author.Tests.{lt-ltb, le-ltb}
 use Rattle.layout.specs.declared.Setup.{Setup}
 use Rattle.layout.specs.Opening.{maskedOf}
 use Rattle.ring.specs.declared.Found.{Found}
-use Rattle.ledger.specs.Reaped.{slotAt, slotOfUrb}
+use Rattle.ledger.specs.Notice.{slotAt, slotOfUrb}
 use Rattle.notice.proofs.slot_of_urb.Statement.{statement}
 use Rattle.notice.proofs.slot_of_urb.Tie as tie
 

@@ -3,12 +3,13 @@
 use mathlib.Core.Path.{ap, _∙_}
 use native.Mathlib.Omega.{arith}
 use borrow.Author.Needs.{needs}
-use Rattle.stream.specs.Opened.{noSetup, noStream, openedStream}
+use Rattle.layout.specs.Numbers.{setupFrom}
+use Rattle.opening.specs.Opened.{noSetup, noStream, openedStream}
 use Rattle.opening.proofs.no_stream.Statement.{statement}
 use Rattle.opening.proofs.no_stream.Tie as tie
 
 opened-requires : tie.Need-opened-requires
-unfolding noSetup
+unfolding noSetup setupFrom
 opened-requires c κs = rw (c .no-setup .ensures) (omega arith)
 
 returns : tie.Need-returns

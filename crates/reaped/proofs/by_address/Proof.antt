@@ -2,38 +2,36 @@
 -- Assumes nothing.
 use mathlib.Core.Path.{sym, _∙_}
 use borrow.Author.Needs.{needs}
-use Rattle.ring.proofs.Wide.{Wide, table-long}
-use Rattle.stream.proofs.Soundness.{setup-accepted}
+use Rattle.stream.proofs.Arrays.{arrays}
+use Rattle.stream.proofs.Soundness.{setup-admissible}
+use Rattle.ledger.specs.Reaped.{byAddress}
 use Rattle.reaped.proofs.Addresses.{named-below}
-use Rattle.reaped.proofs.Replies.{named-none, named-slot}
+use Rattle.reaped.proofs.Replies.{by-found, named-none}
 use Rattle.reaped.proofs.by_address.Statement.{statement}
 use Rattle.reaped.proofs.by_address.Tie as tie
 
-wide : (c : tie.Start) → Wide (c .args .s .ring)
-wide c = record { table = search (needs, table-long); places = search needs }
-
 slot-of-urb-requires : tie.Need-slot-of-urb-requires
-slot-of-urb-requires c κs = let d = c .before in (setup-accepted (d .args .s) (d .pre .0), d .pre .2)
+slot-of-urb-requires c κs = let d = c .before in (setup-admissible (d .args .s) (d .pre .0), d .pre .2)
 
 noticed-requires : tie.Need-noticed-requires
 noticed-requires c κs =
     let d = c .before .before .before .before .before in
     let s = d .args .s in
     let named = sym (c .before .before .before .slot-of-urb .ensures) ∙ c .before .i .given .1 in
-    (d .pre .0, d .pre .1, named-below (s .setup) (setup-accepted s (d .pre .0)) (d .args .address) (d .args .block .now) _ named, d .pre .2)
+    (d .pre .0, d .pre .1, named-below (s .setup) (setup-admissible s (d .pre .0)) (d .args .address) (d .args .block .now) _ named, d .pre .2)
 
 returns : tie.Need-returns
 returns c =
     let d = c .before .before .before .before in
-    named-none (d .args .s) (d .pre .0) (wide d) (d .args .block .now) _
-    (sym (c .before .before .slot-of-urb .ensures) ∙ c .enum-told .given .1)
+    by-found (d .args .s) (d .args .block .now) _ _ (sym (c .before .before .slot-of-urb .ensures) ∙ c .enum-told .given .1) _
+    (named-none (d .args .s) (d .pre .0) (arrays (d .args .s) (d .good .0)) (d .args .block .now))
 
 returns-2 : tie.Need-returns-2
+unfolding byAddress
 returns-2 c =
-    let d = c .before .before .before .before .before .before in
-    named-slot (d .args .s) (d .pre .0) (wide d) (d .args .block .now) _ _
-    (sym (c .before .before .before .before .slot-of-urb .ensures) ∙ c .before .before .i .given .1)
-    (c .noticed .result) (c .noticed .ensures)
+    let named = c .before .before in
+    let d = named .before .before .before .before in
+    by-found (d .args .s) (d .args .block .now) _ _ (sym (named .before .before .slot-of-urb .ensures) ∙ named .i .given .1) _ (c .noticed .ensures)
 
 pub by-address-spec : {M : Type 1} → statement M
 by-address-spec =

@@ -2,9 +2,10 @@
 -- ledger after the acceptance. Assumes nothing.
 use mathlib.Core.Path.{ap, _∙_}
 use borrow.Author.Needs.{needs}
-use Rattle.ring.proofs.Wide.{Wide, table-long}
+use Rattle.ring.proofs.Wide.{Wide}
+use Rattle.stream.proofs.Arrays.{arrays}
 use Rattle.stream.specs.Parts.{withState}
-use Rattle.stream.proofs.Soundness.{setup-accepted}
+use Rattle.stream.proofs.Soundness.{setup-admissible}
 use Rattle.ledger.specs.Ledger.{plus}
 use Rattle.ledger.specs.Submitted.{oneSubmitted}
 use Rattle.ledger.proofs.InHand.{slot-below, out-count-room}
@@ -13,13 +14,13 @@ use Rattle.submitted.proofs.accept.Statement.{statement}
 use Rattle.submitted.proofs.accept.Tie as tie
 
 wide : (c : tie.Start) → Wide (c .args .s .ring)
-wide c = record { table = search (needs, table-long); places = search needs }
+wide c = arrays (c .args .s) (c .good .0)
 
 buffer-bytes-requires : tie.Need-buffer-bytes-requires
 buffer-bytes-requires c κs =
     let d = c .before .before .before in
     let s = d .args .s in
-    (setup-accepted s (d .pre .0), slot-below s (d .pre .0) (wide d) (d .args .i) (d .pre .1), d .pre .2)
+    (setup-admissible s (d .pre .0), slot-below s (d .pre .0) (wide d) (d .args .i) (d .pre .1), d .pre .2)
 
 mark-in-flight-requires : tie.Need-mark-in-flight-requires
 mark-in-flight-requires c κs =
@@ -29,13 +30,15 @@ mark-in-flight-requires c κs =
 returns : tie.Need-returns
 unfolding withState oneSubmitted plus
 returns c =
-    let bytes = c .before in
+    let marked = c .before in
+    let bytes = marked .before in
     let count = bytes .before in
     let read = count .before .before in
     let d = read .before .before .before .before in
     let s = d .args .s in
     let total = bytes .wrapping-add-u642 .ensures ∙ ap (plus (s .stats .«bytes_submitted»)) (read .buffer-bytes .ensures) in
-    rw (c .mark-in-flight .ensures, total, count .wrapping-add-u64 .ensures)
+    c .new .ensures ∙
+    rw (marked .mark-in-flight .ensures, total, count .wrapping-add-u64 .ensures)
     (accepted-stored s (d .pre .0) (wide d) (d .args .i) (d .pre .1) (d .args .block .now))
 
 pub accept-spec : {M : Type 1} → statement M
@@ -46,4 +49,5 @@ accept-spec =
     (λ c κs. search needs)
     (λ c κs. search needs)
     mark-in-flight-requires
+    (λ c κs. search needs)
     returns)

@@ -2,7 +2,7 @@
 -- Assumes nothing.
 use borrow.Author.Needs.{needs}
 use Rattle.ledger.specs.Record.{view}
-use Rattle.turn.proofs.Giving.{take-lent}
+use Rattle.front.proofs.Taking.{take-lent}
 use Rattle.submitted.proofs.Replies.{chain-ends, chain-goes-on}
 use Rattle.submitted.proofs.chain.Statement.{statement}
 use Rattle.submitted.proofs.chain.Tie as tie

@@ -3,12 +3,13 @@
 use mathlib.Core.Path.{_∙_}
 use borrow.Author.Needs.{needs}
 use Rattle.layout.specs.declared.Setup.{Setup}
-use Rattle.ring.proofs.Wide.{Wide, table-long}
+use Rattle.ring.proofs.Wide.{Wide}
+use Rattle.stream.proofs.Arrays.{arrays}
 use Rattle.ledger.specs.Ledger.{Ledger}
 use Rattle.ledger.specs.Record.{view}
 use Rattle.ledger.specs.Submitted.{acceptedLedger, chained, silent}
 use Rattle.ledger.proofs.Valid.{Valid}
-use Rattle.turn.proofs.Giving.{sound-again, hand-again, total-again, gives-again}
+use Rattle.front.proofs.Again.{sound-again, hand-again, total-again, gives-again}
 use Rattle.submitted.proofs.Accepting.{accepted-valid, accepted-queue, accepted-hand}
 use Rattle.submitted.proofs.Failing.{failed-lent}
 use Rattle.submitted.proofs.Replies.{silent-by}
@@ -16,7 +17,7 @@ use Rattle.submitted.proofs.silent.Statement.{statement}
 use Rattle.submitted.proofs.silent.Tie as tie
 
 wide : (c : tie.Start) → Wide (c .args .s .ring)
-wide c = record { table = search (needs, table-long); places = search needs }
+wide c = arrays (c .args .s) (c .good .0)
 
 -- the ledger after the acceptance is valid
 valid : (c : tie.Start) → let a = c .args in Valid (a .s .setup .slots) (acceptedLedger (a .s .setup) (a .i) (view (a .s)) (a .block .now))

@@ -1,7 +1,9 @@
 -- `submitted::submitted` meets its contract: refused by the gate; refused by the hand; else what `sent` or `silent` gives is the rule's outcome.
 -- Assumes nothing.
-use mathlib.Core.Path.{_≡_, refl, sym, _∙_}
+use mathlib.Core.Path.{_≡_, refl, sym, ap, _∙_}
 use mathlib.Core.Bool.{true}
+use mathlib.Core.List.{List}
+use Prim.Native.Nat.{ℕ}
 use borrow.Author.Needs.{needs}
 use borrow.Author.Tests.{eq-eqb}
 use lib.ListN.{length}
@@ -9,31 +11,48 @@ use Rattle.error.specs.declared.Error.{Error}
 use Rattle.layout.specs.Opening.{totalOf}
 use Rattle.ring.specs.declared.Hand.{Hand}
 use Rattle.ring.specs.Slots.{holds}
-use Rattle.ring.proofs.Wide.{Wide, table-long}
 use Rattle.stream.specs.declared.Answer.{Answer}
 use Rattle.stream.specs.declared.Reply.{Reply}
 use Rattle.stream.specs.Sound.{sound}
-use Rattle.ledger.specs.Submitted.{bySending, submitted}
+use Rattle.stream.proofs.Arrays.{arrays}
+use Rattle.ledger.specs.Calls.{submitted, rule, lentTo, stepOf}
+use Rattle.ledger.specs.Record.{view}
 use Rattle.ledger.specs.Step.{refused}
-use Rattle.ledger.specs.Record.{view, call}
-use Rattle.ledger.proofs.Calls.{Told, gate-opened, gate-refused}
-use Rattle.turn.proofs.Giving.{told}
-use Rattle.submitted.proofs.Replies.{submitted-by, submitted-wrong}
+use Rattle.ledger.specs.Submitted as Submitted
+use Rattle.ledger.specs.Told.{Told}
+use Rattle.ledger.proofs.Calls.{told-gives}
+use Rattle.gate.specs.declared.Gate.{Gate}
+use Rattle.gate.specs.declared.Lent.{Lent}
+use Rattle.gate.specs.Gate.{blockGate}
+use Rattle.gate.proofs.Gates.{block-open, block-refused, hand-refused, past-block}
 use Rattle.submitted.proofs.submitted.Statement.{statement}
 use Rattle.submitted.proofs.submitted.Tie as tie
 
-wide : (c : tie.Start) → Wide (c .args .s .ring)
-wide c = record { table = search (needs, table-long); places = search needs }
+-- the gate is open
+opened : (c : tie.After-enum-told) → let a = c .before .before .before .before .args in blockGate (a .s) (Lent.Block (length (a .block .now))) ≡ Gate.Open
+opened c = sym (c .before .before .block-gate .ensures) ∙ c .enum-told .given .1
 
--- past the gate
 passed : (c : tie.After-enum-told) → let a = c .before .before .before .before .args in (sound (a .s) ≡ true) × (length (a .block .now) ≡ totalOf (a .s .setup))
-passed c = gate-opened _ _ (sym (c .before .before .gate .ensures) ∙ c .enum-told .given .1)
+passed c = let a = c .before .before .before .before .args in block-open (a .s) (Lent.Block _) (a .block .now) refl (opened c)
+
+-- past the gate, by the hand
+by-hand : (c : tie.After-enum-told) (h : Hand) → let a = c .before .before .before .before .args in a .s .hand ≡ h → stepOf (a .s .setup) (submitted (a .reply) (a .block .now)) (view (a .s)) ≡ Submitted.bySending (a .reply) h (a .s .setup) (view (a .s)) (a .block .now)
+unfolding rule lentTo Submitted.submitted Submitted.submittedHand view
+by-hand c h e =
+    let a = c .before .before .before .before .args in
+    past-block (a .s) (Lent.Block (length (a .block .now))) (submitted (a .reply) (a .block .now)) (Submitted.submittedHand (a .reply)) refl refl (passed c .1) ∙
+    ap (λ (x : Hand). Submitted.bySending (a .reply) x (a .s .setup) (view (a .s)) (a .block .now)) e
 
 -- refused by the hand
-wrong : (c : tie.After-enum-told) → let a = c .before .before .before .before .args in (h : Hand) → a .s .hand ≡ h → bySending h (a .s .setup) (a .reply) (view (a .s)) (a .block .now) ≡ refused Error.WrongHand (view (a .s)) (a .block .now) → (r : Reply) → r ≡ record { stream = a .s; answer = Answer.Refused Error.WrongHand } → Told (call (submitted (a .reply)) (a .s) (a .block .now)) (r .stream) (r .answer) (a .block .now)
-wrong c h e =
+wrong : (c : tie.After-enum-told) (h : Hand) → let a = c .before .before .before .before .args in a .s .hand ≡ h → Submitted.bySending (a .reply) h (a .s .setup) (view (a .s)) (a .block .now) ≡ refused Error.WrongHand (view (a .s)) (a .block .now) → (r : Reply) → r ≡ record { stream = a .s; answer = Answer.Refused Error.WrongHand } → Told (submitted (a .reply) (a .block .now)) (a .s) (r .answer) (r .stream) (a .block .now)
+unfolding rule lentTo Submitted.submitted Submitted.submittedHand view
+wrong c h e refuses r f =
     let d = c .before .before .before .before in
-    submitted-wrong (d .args .s) (d .args .reply) (d .args .block .now) (passed c .1) h e (passed c .0) (wide d)
+    let a = d .args in
+    rw f
+    (hand-refused (a .s) (Lent.Block (length (a .block .now))) (submitted (a .reply) (a .block .now)) (Submitted.submittedHand (a .reply)) refl refl
+    (arrays (a .s) (d .good .0)) Error.WrongHand (opened c) refl
+    (ap (λ (x : Hand). Submitted.bySending (a .reply) x (a .s .setup) (view (a .s)) (a .block .now)) e ∙ refuses))
 
 sent-requires : tie.Need-sent-requires
 unfolding holds
@@ -50,41 +69,37 @@ silent-requires c κs =
     (passed gate .0, rw (hand .hand2 .given .1, eq-eqb _ _ refl), passed gate .1)
 
 returns : tie.Need-returns
-unfolding submitted
+unfolding rule lentTo Submitted.submitted
 returns c =
     let e = c .before .before in
     let d = e .before .before .before .before in
+    let a = d .args in
     rw (c .refused .ensures)
-    (gate-refused _ (d .args .s) (d .args .block .now) (wide d) _ (sym (e .before .before .gate .ensures) ∙ e .e .given .1))
+    (block-refused (a .s) (Lent.Block _) (submitted (a .reply) (a .block .now)) (Submitted.submittedHand (a .reply)) refl refl (arrays (a .s) (d .good .0)) _
+    (sym (e .before .before .block-gate .ensures) ∙ e .e .given .1))
 
 returns-2 : tie.Need-returns-2
-unfolding bySending
+unfolding Submitted.bySending
 returns-2 c = wrong (c .before .before .before) _ (c .before .enum-told2 .given .1) refl _ (c .refused2 .ensures)
 
 returns-3 : tie.Need-returns-3
-unfolding bySending
+unfolding Submitted.bySending
 returns-3 c = wrong (c .before .before .before) _ (c .before .enum-told3 .given .1) refl _ (c .refused3 .ensures)
 
 returns-4 : tie.Need-returns-4
-unfolding bySending
+unfolding Submitted.bySending
 returns-4 c =
     let hand = c .before .before .before in
     let gate = hand .before .before in
-    let d = gate .before .before .before .before in
-    let s = d .args .s in
-    let block = d .args .block .now in
-    told (submitted (d .args .reply)) s block (passed gate .0) _ (submitted-by s (d .args .reply) block (passed gate .1) _ (hand .hand .given .1)) _ _ (c .sent .ensures)
+    told-gives _ _ (passed gate .0) _ (by-hand gate _ (hand .hand .given .1)) _ _ (c .sent .ensures)
 
 returns-5 : tie.Need-returns-5
-unfolding bySending
+unfolding Submitted.bySending
 returns-5 c =
     let done = c .before .before in
     let hand = done .before .before .before in
     let gate = hand .before .before in
-    let d = gate .before .before .before .before in
-    let s = d .args .s in
-    let block = d .args .block .now in
-    told (submitted (d .args .reply)) s block (passed gate .0) _ (submitted-by s (d .args .reply) block (passed gate .1) _ (hand .hand2 .given .1)) _ _ (done .silent .ensures)
+    told-gives _ _ (passed gate .0) _ (by-hand gate _ (hand .hand2 .given .1)) _ _ (done .silent .ensures)
 
 pub submitted-spec : {M : Type 1} → statement M
 submitted-spec =

@@ -5,13 +5,14 @@ use mathlib.Core.Bool.{Bool, _&&_}
 use mathlib.Core.Logic.{⊎-elim}
 use lib.Dec.{eqb}
 use borrow.Author.Needs.{needs}
-use Rattle.ring.proofs.Wide.{Wide, table-long}
+use Rattle.ring.proofs.Wide.{Wide}
+use Rattle.stream.proofs.Arrays.{arrays}
 use Rattle.turn.proofs.Underruns.{drained-is}
 use Rattle.turn.proofs.drained.Statement.{statement}
 use Rattle.turn.proofs.drained.Tie as tie
 
 wide : (c : tie.Start) → Wide (c .args .s .ring)
-wide c = record { table = search (needs, table-long); places = search needs }
+wide c = arrays (c .args .s) (c .good .0)
 
 -- started and armed
 flags : (c : tie.Joined1) → let s = c .before .before .before .args .s in (s .flags .started && s .flags .armed) ≡ c .if1 .if2

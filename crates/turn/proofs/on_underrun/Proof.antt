@@ -9,7 +9,8 @@ use lib.ListN.{length}
 use Rattle.layout.specs.declared.Setup.{Setup}
 use Rattle.layout.specs.Opening.{totalOf}
 use Rattle.ring.specs.declared.Hand.{Hand}
-use Rattle.ring.proofs.Wide.{Wide, table-long}
+use Rattle.ring.proofs.Wide.{Wide}
+use Rattle.stream.proofs.Arrays.{arrays}
 use Rattle.stream.specs.declared.Reply.{Reply}
 use Rattle.stream.specs.Sound.{sound}
 use Rattle.ledger.specs.Ledger.{Ledger}
@@ -19,13 +20,14 @@ use Rattle.ledger.specs.Record.{view}
 use Rattle.ledger.proofs.Kept.{underrun-valid}
 use Rattle.ledger.proofs.Valid.{Valid, sound-valid}
 use Rattle.ledger.specs.Gives.{Gives}
-use Rattle.turn.proofs.Giving.{take-lent, sound-again, hand-again, total-again, gives-again}
+use Rattle.front.proofs.Again.{sound-again, hand-again, total-again, gives-again}
+use Rattle.front.proofs.Taking.{take-lent}
 use Rattle.turn.proofs.Underruns.{underrun-queue, underrun-hand, by-policy, told-underrun}
 use Rattle.turn.proofs.on_underrun.Statement.{statement}
 use Rattle.turn.proofs.on_underrun.Tie as tie
 
 wide : (c : tie.Start) → Wide (c .args .s .ring)
-wide c = record { table = search (needs, table-long); places = search needs }
+wide c = arrays (c .args .s) (c .good .0)
 
 -- the ledger after the count is valid
 valid : (c : tie.Start) → Valid (c .args .s .setup .slots) (underrun (view (c .args .s)))

@@ -4,7 +4,7 @@ use mathlib.Core.Path.{sym, _∙_}
 use mathlib.Core.Bool.{true, false}
 use borrow.Author.Needs.{needs}
 use Rattle.ledger.specs.Record.{view}
-use Rattle.turn.proofs.Giving.{take-lent}
+use Rattle.front.proofs.Taking.{take-lent}
 use Rattle.turn.proofs.Underruns.{by-drained}
 use Rattle.turn.proofs.turn_idle.Statement.{statement}
 use Rattle.turn.proofs.turn_idle.Tie as tie

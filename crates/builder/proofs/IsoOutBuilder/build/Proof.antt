@@ -2,19 +2,19 @@
 -- makes of the schedule's values. Assumes nothing.
 use mathlib.Core.Path.{refl, sym, _∙_}
 use borrow.Author.Needs.{needs}
-use Rattle.builder.specs.Build.{outcomeOf, buildOutcome}
+use Rattle.builder.specs.Build.{builtOr, buildOutcome}
 use Rattle.builder.proofs.Outcome.{by-opening}
 use Rattle.builder.proofs.IsoOutBuilder.build.Statement.{statement}
 use Rattle.builder.proofs.IsoOutBuilder.build.Tie as tie
 
 returns : tie.Need-returns
-unfolding buildOutcome outcomeOf
+unfolding buildOutcome builtOr
 returns c =
     let told = c .before .before in
     rw (sym (told .before .before .plan .ensures) ∙ told .e .given .1) (refl, c .no-stream .ensures, refl)
 
 returns-2 : tie.Need-returns-2
-unfolding buildOutcome outcomeOf
+unfolding buildOutcome builtOr
 returns-2 c =
     let made = c .before .before .before .before in
     let values = made .before .before in

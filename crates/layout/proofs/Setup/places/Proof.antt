@@ -1,17 +1,17 @@
 -- `layout::Setup::places` meets its contract: the layout is that of the setup, so the values are the slot's places, and their bounds
--- are those of every slot of an accepted setup. Assumes nothing.
+-- are those of every slot of an admissible setup. Assumes nothing.
 use native.Mathlib.Omega.{arith}
 use Rattle.layout.specs.Places.{placesOf, Placed}
-use Rattle.layout.proofs.Acceptance.{accepts}
+use Rattle.layout.proofs.Admission.{admits}
 use Rattle.layout.proofs.Slots.{placed}
 use Rattle.layout.proofs.Setup.places.Statement.{statement}
 use Rattle.layout.proofs.Setup.places.Tie as tie
 
 known : (c : tie.Start) → Placed (c .args .self) (c .args .i) (placesOf (c .args .self) (c .args .i))
-known c = placed _ _ (accepts _ (c .pre .0)) (omega arith) (c .pre .1)
+known c = placed _ _ (admits _ (c .pre .0)) (omega arith) (c .pre .1)
 
 layout-of-requires : tie.Need-layout-of-requires
-layout-of-requires c κs = accepts _ (c .pre .0) .limits
+layout-of-requires c κs = admits _ (c .pre .0) .limits
 
 mul-header : tie.Need-mul-header
 unfolding placesOf

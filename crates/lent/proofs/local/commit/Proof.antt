@@ -2,8 +2,7 @@
 use contract.Monad.{fact-mono}
 use contract.Running.{givenOf}
 use denote.Builtin.{usize}
-use Rattle.ledger.specs.Commit.{commit}
-use Rattle.ledger.specs.Record.{call}
+use Rattle.ledger.specs.Calls.{Call}
 use Rattle.lent.proofs.commit.Met.{met}
 use Rattle.lent.proofs.commit.Symbol as called
 use Rattle.lent_shapes.proofs.Record.{number}
@@ -16,5 +15,5 @@ use Rattle.lent.proofs.local.commit.Statement.{statement}
 pub commit-spec : {M : Type 1} → statement M
 unfolding code.routine
 commit-spec 𝓤 H 𝓜 𝓖 𝓡 =
-    value-slice-local 𝓤 H 𝓜 𝓖 𝓡 code.env name called.name called.routine code.calls-lent·commit usize (number 𝓤 H (𝓖 .A) (givenOf 𝓤 H 𝓜 𝓖)) (λ bytes. call (commit bytes)) (code.unfolded 𝓤 H 𝓜 𝓡) (met 𝓤 H 𝓜 𝓖 𝓡)
+    value-slice-local 𝓤 H 𝓜 𝓖 𝓡 code.env name called.name called.routine code.calls-lent·commit usize (number 𝓤 H (𝓖 .A) (givenOf 𝓤 H 𝓜 𝓖)) Call.commit (code.unfolded 𝓤 H 𝓜 𝓡) (met 𝓤 H 𝓜 𝓖 𝓡)
     (own.clauses 𝓤 H (𝓖 .A) (𝓜 .mem) (𝓡 .run)) (λ κs a g r e. fact-mono 𝓤 _ _ (λ told. told))

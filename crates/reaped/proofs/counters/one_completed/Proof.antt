@@ -4,7 +4,7 @@ use mathlib.Core.Path.{ap, _∙_}
 use borrow.Author.Needs.{needs}
 use Rattle.ledger.specs.Ledger.{plus}
 use Rattle.ledger.specs.Reaped.{urbError, oneCompleted}
-use Rattle.reaped.proofs.Bits.{read-back}
+use Rattle.sys.proofs.Signs.{read-back}
 use Rattle.reaped.proofs.counters.one_completed.Statement.{statement}
 use Rattle.reaped.proofs.counters.one_completed.Tie as tie
 

@@ -2,7 +2,7 @@
 -- Assumes nothing.
 use borrow.Author.Needs.{needs}
 use Rattle.ledger.specs.Reaped.{oneCompleted}
-use Rattle.reaped.specs.Notice.{totalsAfter}
+use Rattle.reaped.specs.Completed.{totalsAfter}
 use Rattle.reaped.proofs.counters.totals_after.Statement.{statement}
 use Rattle.reaped.proofs.counters.totals_after.Tie as tie
 

@@ -5,8 +5,8 @@ use mathlib.Core.Bool.{Bool, true, false, cond}
 use borrow.Author.Needs.{needs}
 use Rattle.stream.specs.declared.Answer.{Answer}
 use Rattle.ledger.specs.Reaped.{isGone}
-use Rattle.reaped.specs.Notice.{answerFor}
-use Rattle.reaped.proofs.Bits.{read-back}
+use Rattle.reaped.specs.Completed.{answerFor}
+use Rattle.sys.proofs.Signs.{read-back}
 use Rattle.reaped.proofs.status.answer_for.Statement.{statement}
 use Rattle.reaped.proofs.status.answer_for.Tie as tie
 

@@ -2,12 +2,12 @@
 -- Assumes nothing.
 use borrow.Author.Needs.{needs}
 use Rattle.ring.specs.Parts.{withOut}
-use Rattle.ring.specs.Moves.{accepted}
+use Rattle.ring.specs.Moves.{markedInFlight}
 use Rattle.ring.proofs.Ring.mark_in_flight.Statement.{statement}
 use Rattle.ring.proofs.Ring.mark_in_flight.Tie as tie
 
 pub mark-in-flight-spec : {M : Type 1} → statement M
-unfolding accepted withOut
+unfolding markedInFlight withOut
 mark-in-flight-spec =
     tie.close
     (tie.spec

@@ -5,7 +5,7 @@ use Prim.Native.Nat.{_+_}
 use borrow.Author.Needs.{needs}
 use Rattle.sys.specs.Bytes.{le, store}
 use Rattle.sys.specs.Header.{bufferLengthAt, actualLengthAt, errorCountAt}
-use Rattle.ledger.specs.Block.{headed}
+use Rattle.ledger.specs.Slot.{headed}
 use Rattle.slot.proofs.lengths.set_header.Statement.{statement}
 use Rattle.slot.proofs.lengths.set_header.Tie as tie
 

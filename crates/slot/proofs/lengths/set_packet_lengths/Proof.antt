@@ -4,7 +4,7 @@ use mathlib.Core.Path.{ap, _∙_}
 use native.Mathlib.Omega.{arith}
 use borrow.Author.Needs.{needs}
 use Rattle.sys.specs.Bytes.{store}
-use Rattle.ledger.specs.Block.{shares, descriptors}
+use Rattle.ledger.specs.Slot.{shares, descriptors}
 use Rattle.slot.proofs.Commits.{capacity-is, shares-parts}
 use Rattle.slot.proofs.lengths.set_packet_lengths.Statement.{statement}
 use Rattle.slot.proofs.lengths.set_packet_lengths.Tie as tie

@@ -5,7 +5,7 @@ use Prim.Native.Nat.{_≤_}
 use native.Mathlib.Omega.{arith}
 use borrow.Author.Needs.{needs}
 use Rattle.sys.specs.Bytes.{store}
-use Rattle.ledger.specs.Block.{sum, descriptors}
+use Rattle.ledger.specs.Slot.{sum, descriptors}
 use Rattle.slot.proofs.Commits.{sum-fits, commit-parts}
 use Rattle.slot.proofs.lengths.set_packet_lengths_exact.Statement.{statement}
 use Rattle.slot.proofs.lengths.set_packet_lengths_exact.Tie as tie

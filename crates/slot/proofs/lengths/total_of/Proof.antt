@@ -6,7 +6,7 @@ use native.Mathlib.Nat.{zero-add}
 use native.Mathlib.Omega.{arith}
 use borrow.Author.Needs.{needs}
 use lib.ListN.{length, drop, getD}
-use Rattle.ledger.specs.Block.{sum}
+use Rattle.ledger.specs.Slot.{sum}
 use Rattle.slot.proofs.PacketLengths.{sum-next, sum-end}
 use Rattle.slot.proofs.lengths.total_of.Statement.{statement}
 use Rattle.slot.proofs.lengths.total_of.Tie as tie

@@ -11,7 +11,7 @@ use lib.ListN.{length, drop, getD, drop-of-length-le}
 use lib.Seq.{drop-cons}
 use Rattle.sys.specs.Bytes.{store}
 use Rattle.sys.specs.Descriptor.{descSize, descBytes, packetOf}
-use Rattle.ledger.specs.Block.{descriptors}
+use Rattle.ledger.specs.Slot.{descriptors}
 use Rattle.slot.proofs.PacketLengths.{each-within}
 use Rattle.slot.proofs.Descriptors.{store-next, store-none, further}
 use Rattle.slot.proofs.lengths.write_lengths.Statement.{statement}

@@ -9,7 +9,7 @@ use borrow.Author.Needs.{needs}
 use lib.ListN.{length}
 use Rattle.sys.specs.Bytes.{store}
 use Rattle.sys.specs.Descriptor.{descSize, descBytes, packetOf}
-use Rattle.ledger.specs.Block.{shares, descriptors}
+use Rattle.ledger.specs.Slot.{shares, descriptors}
 use Rattle.slot.proofs.PacketLengths.{share-left}
 use Rattle.slot.proofs.Descriptors.{store-next, store-none, further, shares-next, shares-none}
 use Rattle.slot.proofs.lengths.write_shares.Statement.{statement}

@@ -5,7 +5,7 @@ use Prim.Native.Nat.{ℕ}
 use native.Mathlib.Omega.{arith}
 use borrow.Author.Needs.{needs}
 use lib.ListN.{length}
-use Rattle.ledger.specs.Block.{shares, committed, silenced}
+use Rattle.ledger.specs.Slot.{shares, committed, silenced}
 use Rattle.slot.proofs.Commits.{capacity-is, silence-parts, length-silenced}
 use Rattle.slot.proofs.silence.fill_silence.Statement.{statement}
 use Rattle.slot.proofs.silence.fill_silence.Tie as tie

@@ -9,11 +9,11 @@ use Rattle.stream.specs.Sound.{sound}
 
 returns : tie.Need-returns
 unfolding sound
-returns c = rw (sym (c .before .accepted .ensures) ∙ not-true _ (c .if1 .taken))
+returns c = rw (sym (c .before .admissible .ensures) ∙ not-true _ (c .if1 .taken))
 
 returns-2 : tie.Need-returns-2
 unfolding sound
-returns-2 c = rw (sym (c .before .before .before .accepted .ensures) ∙ not-false _ (c .before .before .if1 .left)) (c .sound .ensures)
+returns-2 c = rw (sym (c .before .before .before .admissible .ensures) ∙ not-false _ (c .before .before .if1 .left)) (c .sound .ensures)
 
 pub sound-spec : {M : Type 1} → statement M
 sound-spec = tie.close (tie.spec (λ c κs. search needs) returns (λ c κs. search needs) returns-2)
