@@ -119,13 +119,10 @@ fn digit(state: SlotState) -> u8 {
 
 // A digit for each of the n slots.
 fn states(out: &mut [u8], at: usize, ring: Ring, n: usize) -> usize {
-    let cells = ring.states;
     let mut end = at;
     let mut k: usize = 0;
     while k < 256 && k < n {
-        let cell = cells[k];
-        let state = cell.state;
-        end = byte(out, end, digit(state));
+        end = byte(out, end, digit(ring.state(k)));
         k += 1;
     }
     end

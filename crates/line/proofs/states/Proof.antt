@@ -7,10 +7,10 @@ use Rattle.line.proofs.states.Statement.{statement}
 use Rattle.line.proofs.states.Tie as tie
 
 abbrev Inv-loop : tie.InvT-loop
-Inv-loop out₀ at n cells end₀ k₀ out end k = length out ≡ length out₀
+Inv-loop out₀ at ring n end₀ k₀ out end k = length out ≡ length out₀
 
 abbrev μ-loop : tie.MeasureT-loop
-μ-loop out₀ at n cells end₀ k₀ out end k = 256 - k
+μ-loop out₀ at ring n end₀ k₀ out end k = 256 - k
 
 pub states-spec : {M : Type 1} → statement M
 states-spec =
@@ -19,7 +19,7 @@ states-spec =
     Inv-loop
     μ-loop
     (λ c. search needs)
-    (λ c. search needs)
+    (λ c κs. search needs)
     (λ c κs. search needs)
     (λ c κs. search needs)
     (λ c. search needs)
