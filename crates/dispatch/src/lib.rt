@@ -2,7 +2,10 @@
 // promise that they are safe and end, since whatever a kind and its numbers are, the call that they pick refuses what
 // is wrong.
 use input::Mode;
-use screen::show;
+use input::Style;
+use line::line;
+use screen::row;
+use stream::Answer;
 use stream::Reaping;
 use stream::Reply;
 use stream::Stream;
@@ -94,6 +97,25 @@ fn call(s: Stream, is_lent: bool, v: [u64; 5], list: &mut [usize], block: &mut [
         return block_call(s, is_lent, v, list, block);
     }
     block_call(s, is_lent, v, list, &mut block[..lent])
+}
+
+// What is printed of a call, or of an opening that was not refused (kind 12): in the style that is asked for. A list is
+// what stop was lent.
+pub fn show(
+    out: &mut [u8],
+    at: usize,
+    style: Style,
+    kind: u64,
+    count: u64,
+    answer: Answer,
+    list: &[usize],
+    s: Stream,
+    block: &[u8],
+) -> usize {
+    match style {
+        Style::Lines => line(out, at, count, answer, list, s, block),
+        Style::Screen => row(out, at, kind, answer, s),
+    }
 }
 
 // Makes a call and prints its line.

@@ -2,13 +2,11 @@
 // and then makes calls on records that no list of calls makes: counters before they wrap, and records that break the
 // list of refusal 8 (most break one rule alone). Lines are those of docs/RUNS.md, with a title above each group of
 // calls.
-mod wrapping;
-
-use broken_records::all_records;
+use edge_records::all_counters;
+use edge_records::all_records;
 use input::Style;
 use player::play_input;
 use text::flush;
-use wrapping::all_counters;
 
 fn main() {
     play_input(Style::Lines);

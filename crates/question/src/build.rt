@@ -1,15 +1,12 @@
 // The question to the builder: a stream is built in a block of the length that its ring takes.
+use arguments::depth_of;
+use arguments::functions::ring_bytes;
+use arguments::speed_of;
+use arguments::u8_of;
 use builder::Built;
 use builder::IsoOutBuilder;
-use layout::Laid;
-use layout::RingLayout;
 use line::refused;
-use reading::arguments::depth_of;
-use reading::arguments::packets_of;
-use reading::arguments::speed_of;
-use reading::arguments::u8_of;
 use schedule::Derived;
-use schedule::Schedule;
 use text::marked;
 use text::named;
 
@@ -41,25 +38,6 @@ fn builder_of(q: [u64; 13]) -> IsoOutBuilder {
         deep
     };
     sized(packed, q)
-}
-
-// The bytes of the ring that these values lead to; 0 where there is none.
-fn ring_bytes(q: [u64; 13]) -> usize {
-    let bytes = if q[6] == 1 { q[7] } else { q[5] };
-    let derived = Schedule::derive(
-        speed_of(q[1]),
-        u8_of(q[3]),
-        bytes as usize,
-        depth_of(q[9], q[10]),
-        packets_of(q[11], q[12]),
-    );
-    match derived {
-        Derived::Refused(_) => 0,
-        Derived::Schedule(s) => match RingLayout::new(s.urbs, s.packets_per_urb, s.packet_bytes) {
-            Laid::Refused(_) => 0,
-            Laid::Layout(l) => l.total_bytes,
-        },
-    }
 }
 
 // Builds in that many bytes of the block, or in all of it.

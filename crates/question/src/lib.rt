@@ -2,63 +2,47 @@
 // they are safe and end; that the lines are right is compared.
 mod build;
 
+use arguments::argument_count;
+use arguments::functions::derive;
+use arguments::functions::one_number;
+use arguments::functions::planned;
+use arguments::functions::refusal;
+use arguments::is_narrow;
+use arguments::is_padded;
+use arguments::speed_of;
+use arguments::u8_of;
 use build::build_text;
-use error::ErrnoContext;
-use error::Error;
 use input::Stand;
 use input::numbers;
 use layout::Laid;
 use layout::RingLayout;
 use line::refused;
-use reading::arguments::argument_count;
-use reading::arguments::depth_of;
-use reading::arguments::is_narrow;
-use reading::arguments::is_padded;
-use reading::arguments::packets_of;
-use reading::arguments::speed_number;
-use reading::arguments::speed_of;
-use reading::arguments::u8_of;
-use reading::arguments::u16_of;
-use reading::arguments::u32_of;
 use schedule::Derived;
-use schedule::Endpoint;
 use schedule::Interval;
 use schedule::Product;
 use schedule::Schedule;
-use schedule::Speed;
 use schedule::packet_interval_us;
-use schedule::plan;
-use sys::field::to_signed;
 use text::byte;
 use text::bytes;
 use text::flush_half;
 use text::marked;
+use text::name;
 use text::named;
 
+// The functions' names, in the order of their numbers.
+const NAMES: [u8; 101] = *b"layout\nfrom_raw\nfrom_device_probe\npacket_interval_us\n\
+    bytes_per_interval\nderive\nplan\nfrom_errno\nbuild\n";
+
 // The name, the arguments, and the sign before the results.
-fn asked(out: &mut [u8], at: usize, name: &[u8], q: [u64; 13]) -> usize {
+fn asked(out: &mut [u8], at: usize, q: [u64; 13]) -> usize {
     let count = argument_count(q[0]);
-    let mut end = bytes(out, at, name);
+    let mut end = name(out, at, &NAMES, q[0]);
     let mut k: usize = 1;
     while k < 13 && k <= count {
         end = named(out, end, b" ", q[k]);
         k += 1;
     }
     bytes(out, end, b" = ")
-}
-
-fn name(out: &mut [u8], at: usize, q: [u64; 13]) -> usize {
-    match q[0] {
-        0 => asked(out, at, b"layout", q),
-        1 => asked(out, at, b"from_raw", q),
-        2 => asked(out, at, b"from_device_probe", q),
-        3 => asked(out, at, b"packet_interval_us", q),
-        4 => asked(out, at, b"bytes_per_interval", q),
-        5 => asked(out, at, b"derive", q),
-        6 => asked(out, at, b"plan", q),
-        7 => asked(out, at, b"from_errno", q),
-        _ => asked(out, at, b"build", q),
-    }
 }
 
 fn layout_text(out: &mut [u8], at: usize, q: [u64; 13]) -> usize {
@@ -115,53 +99,6 @@ fn derived(out: &mut [u8], at: usize, answer: Derived) -> usize {
     }
 }
 
-fn derive(q: [u64; 13]) -> Derived {
-    Schedule::derive(
-        speed_of(q[1]),
-        u8_of(q[2]),
-        q[3] as usize,
-        depth_of(q[4], q[5]),
-        packets_of(q[6], q[7]),
-    )
-}
-
-fn endpoint(attributes: u8, max_packet_size: u16, interval: u8) -> Endpoint {
-    Endpoint {
-        address: 1,
-        attributes,
-        max_packet_size,
-        interval,
-    }
-}
-
-fn planned(q: [u64; 13]) -> Derived {
-    plan(
-        speed_of(q[1]),
-        endpoint(u8_of(q[2]), u16_of(q[3]), u8_of(q[4])),
-        depth_of(q[5], q[6]),
-        packets_of(q[7], q[8]),
-    )
-}
-
-fn refusal(q: [u64; 13]) -> Error {
-    if q[2] == 0 {
-        return Error::from_errno(u32_of(q[1]), ErrnoContext::Submit { bytes: q[3] });
-    }
-    Error::from_errno(u32_of(q[1]), ErrnoContext::Other)
-}
-
-// The functions that give one number.
-fn one_number(q: [u64; 13]) -> u64 {
-    match q[0] {
-        1 => speed_number(Speed::from_raw(to_signed(u32_of(q[1])))),
-        2 => speed_number(Speed::from_device_probe(u8_of(q[1]), q[2] == 1)),
-        _ => {
-            let given = endpoint(1, u16_of(q[1]), 1);
-            given.bytes_per_interval() as u64
-        }
-    }
-}
-
 fn results(out: &mut [u8], at: usize, q: [u64; 13], block: &mut [u8]) -> usize {
     match q[0] {
         0 => layout_text(out, at, q),
@@ -186,7 +123,7 @@ pub fn question(input: &mut [u8], out: &mut [u8], block: &mut [u8], from: Stand)
             mode,
         };
     }
-    let first = name(out, from.at, q);
+    let first = asked(out, from.at, q);
     let last = results(out, first, q, block);
     let end = byte(out, last, b'\n');
     Stand {

@@ -1,6 +1,5 @@
-// Reads the openings and the calls of recorded runs, and says what a question's numbers stand for (docs/RUNS.md). For
-// the programs of this repository: what these functions promise is that they are safe and end.
-pub mod arguments;
+// Reads the openings and the calls of recorded runs (docs/RUNS.md). For the programs of this repository: what these
+// functions promise is that they are safe and end.
 mod form;
 
 use form::is_call;

@@ -1,6 +1,7 @@
 // A run: an opening, then calls on the record that the last one left (docs/RUNS.md). These functions promise that they
 // are safe and end; that the lines are right is compared.
 use dispatch::make;
+use dispatch::show;
 use error::Error;
 use input::Stand;
 use layout::Setup;
@@ -9,7 +10,6 @@ use opening::open;
 use reading::Asked;
 use reading::read_call;
 use reading::read_opening;
-use screen::show;
 use stream::Answer;
 use stream::Reply;
 use stream::Stream;

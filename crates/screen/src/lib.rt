@@ -1,8 +1,7 @@
-// What is printed after a call: a line of docs/RUNS.md, or what a counter screen shows, in columns. For the programs of
-// this repository: these functions promise that they are safe and end.
+// What a counter screen shows after a call, in columns. For the programs of this repository: these functions promise
+// that they are safe and end.
 use error::Error;
 use input::Style;
-use line::line;
 use ring::Ring;
 use stream::Answer;
 use stream::Completion;
@@ -137,30 +136,11 @@ fn words(out: &mut [u8], at: usize, kind: u64, answer: Answer) -> usize {
     left(out, first, said, ANSWER)
 }
 
-// A row of the screen.
-fn row(out: &mut [u8], at: usize, kind: u64, answer: Answer, s: Stream) -> usize {
+// The row of a call, or of an opening that was not refused (kind 12).
+pub fn row(out: &mut [u8], at: usize, kind: u64, answer: Answer, s: Stream) -> usize {
     let ring = s.ring;
     let stats = s.stats;
     let first = words(out, at, kind, answer);
     let end = counts(out, first, counts_of(ring, stats));
     byte(out, end, b'\n')
-}
-
-// What is printed of a call, or of an opening that was not refused (kind 12): in the style that is asked for. A list is
-// what stop was lent.
-pub fn show(
-    out: &mut [u8],
-    at: usize,
-    style: Style,
-    kind: u64,
-    count: u64,
-    answer: Answer,
-    list: &[usize],
-    s: Stream,
-    block: &[u8],
-) -> usize {
-    match style {
-        Style::Lines => line(out, at, count, answer, list, s, block),
-        Style::Screen => row(out, at, kind, answer, s),
-    }
 }

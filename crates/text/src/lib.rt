@@ -17,6 +17,31 @@ pub fn bytes(out: &mut [u8], at: usize, values: &[u8]) -> usize {
     end
 }
 
+// Where the name with this index starts.
+fn start_of(names: &[u8], index: u64) -> usize {
+    let mut before = index;
+    for k in 0..names.len() {
+        if before == 0 {
+            return k;
+        }
+        if names[k] == b'\n' {
+            before -= 1;
+        }
+    }
+    names.len()
+}
+
+// One of the names, counted from 0. Each ends with a newline, which is left out.
+pub fn name(out: &mut [u8], at: usize, names: &[u8], index: u64) -> usize {
+    let mut end = at;
+    let mut k = start_of(names, index);
+    while k < names.len() && names[k] != b'\n' {
+        end = byte(out, end, names[k]);
+        k += 1;
+    }
+    end
+}
+
 pub fn number(out: &mut [u8], at: usize, value: u64) -> usize {
     let mut digits = [0u8; 20];
     let k = io::decimal(value, &mut digits);

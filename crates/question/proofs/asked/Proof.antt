@@ -7,10 +7,10 @@ use Rattle.question.proofs.asked.Statement.{statement}
 use Rattle.question.proofs.asked.Tie as tie
 
 abbrev Inv-loop : tie.InvT-loop
-Inv-loop out₀ at name q count end₀ k₀ t9 t10 out end k = length out ≡ length out₀
+Inv-loop out₀ at q count end₀ k₀ t9 t10 out end k = length out ≡ length out₀
 
 abbrev μ-loop : tie.MeasureT-loop
-μ-loop out₀ at name q count end₀ k₀ t9 t10 out end k = 13 - k
+μ-loop out₀ at q count end₀ k₀ t9 t10 out end k = 13 - k
 
 pub asked-spec : {M : Type 1} → statement M
 asked-spec =
@@ -20,6 +20,8 @@ asked-spec =
     μ-loop
     (λ c. search needs)
     (λ c κs. search needs)
+    (λ c. search needs)
+    (λ c. search needs)
     (λ c κs. search needs)
     (λ c. search needs)
     (λ c. search needs)

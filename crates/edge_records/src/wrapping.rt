@@ -1,6 +1,6 @@
 // Counters that wrap: a ring of two slots whose eight counters all stand at 2^64 - 1, through a whole cycle and an
 // underrun.
-use broken_records::lines;
+use crate::lines;
 use dispatch::Played;
 use dispatch::make;
 use layout::Setup;

@@ -1,4 +1,7 @@
-// The arguments of a question's function: how many, how wide, and the values that they stand for.
+// The arguments of a question's function (docs/RUNS.md): how many, how wide, and the values that they stand for. For
+// the programs of this repository: what these functions promise is that they are safe and end.
+pub mod functions;
+
 use schedule::Depth;
 use schedule::Packets;
 use schedule::Speed;

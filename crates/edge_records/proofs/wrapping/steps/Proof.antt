@@ -1,11 +1,11 @@
--- `edges::wrapping::steps` is safe and ends. What is lent keeps its length; the measure is how many calls are left.
+-- `edge_records::wrapping::steps` is safe and ends. What is lent keeps its length; the measure is how many calls are left.
 -- Assumes nothing.
 use Prim.Native.Nat.{_-_}
 use mathlib.Core.Path.{_≡_}
 use lib.ListN.{length}
 use borrow.Author.Needs.{needs}
-use Rattle.edges.proofs.wrapping.steps.Statement.{statement}
-use Rattle.edges.proofs.wrapping.steps.Tie as tie
+use Rattle.edge_records.proofs.wrapping.steps.Statement.{statement}
+use Rattle.edge_records.proofs.wrapping.steps.Tie as tie
 
 abbrev Inv-loop : tie.InvT-loop
 Inv-loop out₀ list₀ block₀ going₀ count₀ out list block going count =

@@ -1,11 +1,11 @@
--- `broken_records::all_records` is safe and ends. What is lent keeps its length; the measure is how many calls are left.
+-- `edge_records::broken::all_records` is safe and ends. What is lent keeps its length; the measure is how many calls are left.
 -- Assumes nothing.
 use Prim.Native.Nat.{_-_}
 use mathlib.Core.Path.{_≡_}
 use lib.ListN.{length}
 use borrow.Author.Needs.{needs}
-use Rattle.broken_records.proofs.all_records.Statement.{statement}
-use Rattle.broken_records.proofs.all_records.Tie as tie
+use Rattle.edge_records.proofs.broken.all_records.Statement.{statement}
+use Rattle.edge_records.proofs.broken.all_records.Tie as tie
 
 abbrev Inv-loop : tie.InvT-loop
 Inv-loop out₀ at list₀ block₀ end₀ k₀ out list block end k =

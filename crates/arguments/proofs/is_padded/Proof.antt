@@ -1,8 +1,8 @@
--- `reading::arguments::is_padded` is safe and ends. The measure is how many numbers are left. Assumes nothing.
+-- `arguments::is_padded` is safe and ends. The measure is how many numbers are left. Assumes nothing.
 use Prim.Native.Nat.{_-_}
 use borrow.Author.Needs.{needs}
-use Rattle.reading.proofs.arguments.is_padded.Statement.{statement}
-use Rattle.reading.proofs.arguments.is_padded.Tie as tie
+use Rattle.arguments.proofs.is_padded.Statement.{statement}
+use Rattle.arguments.proofs.is_padded.Tie as tie
 
 abbrev Inv-loop : tie.InvT-loop
 Inv-loop q count k₀ k = Unit {0}

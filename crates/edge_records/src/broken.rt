@@ -1,9 +1,8 @@
 // Records that break the list of refusal 8 (most break one rule alone), with some that look odd and pass. All start
 // from this one: R (four slots, eight packets of 100 bytes) at base 65,536, slot 0 InFlight, 1 Discarding, 2 in hand,
 // 3 in the queue.
+use crate::lines;
 use dispatch::make;
-use input::Mode;
-use input::Style;
 use layout::Setup;
 use layout::Underrun;
 use ring::Cell;
@@ -13,15 +12,8 @@ use ring::SlotState;
 use stream::Flags;
 use stream::IsoStats;
 use stream::Stream;
-use text::bytes;
-
-// Lines, of calls by value.
-pub fn lines() -> Mode {
-    Mode {
-        style: Style::Lines,
-        is_lent: false,
-    }
-}
+use text::byte;
+use text::name;
 
 // How many records, and how many kinds of calls on each.
 const RECORDS: u64 = 27;
@@ -172,56 +164,34 @@ fn record(k: u64) -> Stream {
     }
 }
 
-// Opening's values, and the record as it should be.
-fn first_title(out: &mut [u8], at: usize, k: u64) -> usize {
-    match k {
-        0 => bytes(out, at, b"A record as it should be\n"),
-        1 => bytes(out, at, b"One slot\n"),
-        2 => bytes(out, at, b"No packets\n"),
-        3 => bytes(out, at, b"No bytes a packet\n"),
-        4 => bytes(out, at, b"129 packets\n"),
-        5 => bytes(out, at, b"257 slots\n"),
-        6 => bytes(out, at, b"49153 bytes a packet\n"),
-        7 => bytes(out, at, b"A base that is no multiple of 64\n"),
-        8 => bytes(out, at, b"A block past the last address\n"),
-        _ => bytes(out, at, b"A tagged block past 2^56\n"),
-    }
-}
-
-// Queue and out count.
-fn queue_title(out: &mut [u8], at: usize, k: u64) -> usize {
-    match k {
-        10 => bytes(out, at, b"A Free slot that is not in the queue\n"),
-        11 => bytes(out, at, b"A slot twice in the queue\n"),
-        12 => bytes(out, at, b"A slot in the queue that is out\n"),
-        13 => bytes(out, at, b"A slot in the queue that is in hand\n"),
-        14 => bytes(out, at, b"A slot in the queue that the ring doesn't have\n"),
-        15 => bytes(out, at, b"A queue longer than its places\n"),
-        16 => bytes(out, at, b"An out count too low\n"),
-        17 => bytes(out, at, b"An out count too high\n"),
-        _ => first_title(out, at, k),
-    }
-}
-
-// The hand, and what passes.
-fn title(out: &mut [u8], at: usize, k: u64) -> usize {
-    match k {
-        18 => bytes(out, at, b"A slot in hand that is not Filling\n"),
-        19 => bytes(out, at, b"A Filling slot and the hand Idle\n"),
-        20 => bytes(out, at, b"A second Filling slot\n"),
-        21 => bytes(out, at, b"A slot in hand that the ring doesn't have\n"),
-        22 => bytes(out, at, b"Silent with 2 left\n"),
-        23 => bytes(out, at, b"Silent with 1 left: passes\n"),
-        24 => bytes(out, at, b"Any number behind the queue's end: passes\n"),
-        25 => bytes(out, at, b"Any state past the last slot: passes\n"),
-        26 => bytes(
-            out,
-            at,
-            b"A record as it should be, and a block one byte too long\n",
-        ),
-        _ => queue_title(out, at, k),
-    }
-}
+// What each record is.
+const TITLES: [u8; 759] = *b"A record as it should be\n\
+    One slot\n\
+    No packets\n\
+    No bytes a packet\n\
+    129 packets\n\
+    257 slots\n\
+    49153 bytes a packet\n\
+    A base that is no multiple of 64\n\
+    A block past the last address\n\
+    A tagged block past 2^56\n\
+    A Free slot that is not in the queue\n\
+    A slot twice in the queue\n\
+    A slot in the queue that is out\n\
+    A slot in the queue that is in hand\n\
+    A slot in the queue that the ring doesn't have\n\
+    A queue longer than its places\n\
+    An out count too low\n\
+    An out count too high\n\
+    A slot in hand that is not Filling\n\
+    A Filling slot and the hand Idle\n\
+    A second Filling slot\n\
+    A slot in hand that the ring doesn't have\n\
+    Silent with 2 left\n\
+    Silent with 1 left: passes\n\
+    Any number behind the queue's end: passes\n\
+    Any state past the last slot: passes\n\
+    A record as it should be, and a block one byte too long\n";
 
 // An argument for each kind: 100 bytes, errno EAGAIN, the first header's address, a list of two places.
 fn argument(kind: u64) -> u64 {
@@ -264,7 +234,8 @@ fn titled(
     block: &mut [u8],
 ) -> usize {
     if kind == 0 {
-        let end = title(out, at, k);
+        let titled_end = name(out, at, &TITLES, k);
+        let end = byte(out, titled_end, b'\n');
         return called(out, end, k, kind, list, block);
     }
     called(out, at, k, kind, list, block)
