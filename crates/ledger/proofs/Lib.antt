@@ -9,3 +9,4 @@ pub mod Found
 pub mod Rings
 pub mod InHand
 pub mod Calls
+pub mod Order
