@@ -61,7 +61,8 @@ headerWidths = 1 ∷ 1 ∷ 2 ∷ 4 ∷ 4 ∷ 4 ∷ 8 ∷ 4 ∷ 4 ∷ 4 ∷ 4 ∷
 abbrev pub headerValues : Urb → List ℕ
 headerValues u =
     u .typ ∷ u .endpoint ∷ 0 ∷ unsigned (u .status) ∷ u .flags ∷ 0 ∷ u .buffer ∷ unsigned (u .«buffer_length»)
-    ∷ unsigned (u .«actual_length») ∷ unsigned (u .«start_frame») ∷ unsigned (u .«number_of_packets») ∷ unsigned (u .«error_count») ∷ u .signr ∷ u .usercontext ∷ []
+    ∷ unsigned (u .«actual_length») ∷ unsigned (u .«start_frame») ∷ unsigned (u .«number_of_packets»)
+    ∷ unsigned (u .«error_count») ∷ u .signr ∷ u .usercontext ∷ []
 
 -- The header's 56 bytes.
 unfoldable pub headerBytes : Urb → List ℕ
