@@ -5,7 +5,7 @@ ghost use mathlib.Core.Path.{_≡_};
 ghost use mathlib.Core.Bool.{false};
 ghost use mathlib.Core.List.{_++_};
 ghost use Prim.Native.Nat.{_-_, _<_, _≤_};
-ghost use lib.ListN.{replicate, take, drop};
+ghost use lib.ListN.{replicate, take, drop, getD};
 ghost use Rattle.ring.specs.declared.SlotState.{SlotState};
 ghost use Rattle.ring.specs.Slots.{placeOf, holds, handWithin};
 ghost use Rattle.ring.specs.Counts.{slotNumbers};
@@ -52,6 +52,12 @@ pub enum Found {
 pub struct Taken {
     pub ring: Ring,
     pub slot: Found,
+}
+
+// A queue's front, and the places of the rest.
+struct Moved {
+    front: u8,
+    rest: [u8; 256],
 }
 
 // Where a slot is, by its state: in the queue, in hand, or out (1, what it adds to the out count, else 0).
@@ -115,15 +121,17 @@ fn none_seen() -> [bool; 256]
     [false; 256]
 }
 
-// Internal: the first count places each get what stands in the next.
-fn moved_down(mut free: [u8; 256], count: usize) -> [u8; 256]
+// Internal: the front leaves, and the first count places each get what stands in the next. The front is read from the
+// array that the loop writes: read from the ring, it would have the compiler copy the ring in two pieces each time.
+fn moved_down(mut free: [u8; 256], count: usize) -> Moved
     requires { ⌜ count < 256 ⌝ }
-    ensures { λ r. ⌜ r ≡ take count (drop 1 free) ++ drop count free ⌝ }
+    ensures { λ r. ⌜ r ≡ record { front = getD free 0 0; rest = take count (drop 1 free) ++ drop count free } ⌝ }
 {
+    let front = free[0];
     for k in 0..count {
         free[k] = free[k + 1];
     }
-    free
+    Moved { front, rest: free }
 }
 
 // Internal: every slot Free.
@@ -247,8 +255,9 @@ impl Ring {
         }
         let left = len - 1;
         let free = self.free;
-        let slot = free[0] as usize;
-        let rest = moved_down(free, left);
+        let moved = moved_down(free, left);
+        let slot = moved.front as usize;
+        let rest = moved.rest;
         self.free = rest;
         self.free_len = left;
         Taken {

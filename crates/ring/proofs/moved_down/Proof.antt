@@ -10,10 +10,10 @@ use Rattle.ring.proofs.moved_down.Statement.{statement}
 use Rattle.ring.proofs.moved_down.Tie as tie
 
 abbrev Inv-loop : tie.InvT-loop
-Inv-loop count free₀ k₀ free k = (k ≤ count) × (free ≡ movedDown free₀ k)
+Inv-loop count free₀ front k₀ free k = (k ≤ count) × (free ≡ movedDown free₀ k)
 
 abbrev μ-loop : tie.MeasureT-loop
-μ-loop count free₀ k₀ free k = count - k
+μ-loop count free₀ front k₀ free k = count - k
 
 pub moved-down-spec : {M : Type 1} → statement M
 moved-down-spec =
@@ -21,6 +21,7 @@ moved-down-spec =
     (tie.spec
     Inv-loop
     μ-loop
+    (λ c. search needs)
     (λ c. (search needs, refl))
     (λ c. search needs)
     (λ c. omega arith)
@@ -31,4 +32,4 @@ moved-down-spec =
     let free = c .before .before .args .t1 in
     let w : length free ≡ 256 = search needs in
     (search needs, rw (at .inv .1) (moved-next free (at .k) (omega arith))))
-    (λ c. let e : c .before .loop .k ≡ c .before .before .args .count = omega arith in rw (← e) (c .before .loop .inv .1)))
+    (λ c. let e : c .before .loop .k ≡ c .before .before .args .count = omega arith in rw (← e, c .before .loop .inv .1)))

@@ -14,13 +14,13 @@ use Rattle.ring.proofs.Ring.take_free.Tie as tie
 returns-2 : tie.Need-returns-2
 unfolding taken takenFrom queueOf withQueue
 returns-2 c =
-    let ring = c .before .before .before .before .args .self in
+    let ring = c .before .before .before .before .before .before .args .self in
     let w : length (ring .free) ≡ 256 = search needs in
     rw (
       front-rest (ring .free) (ring .«free_len») (omega arith) (omega arith),
       rest-long (ring .free) (ring .«free_len») (omega arith),
       c .with-state .ensures,
-      c .before .moved-down .ensures,
+      c .before .before .before .moved-down .ensures,
     )
 
 pub take-free-spec : {M : Type 1} → statement M
@@ -30,8 +30,7 @@ take-free-spec =
     (tie.spec
     (λ c. rw (c .if1 .taken))
     (λ c. search needs)
-    (λ c. search needs)
-    (λ c. search needs)
     (λ c κs. search needs)
+    (λ c. search needs)
     (λ c κs. byte-below (search needs))
     returns-2)
