@@ -18,7 +18,7 @@ use Rattle.ledger.specs.Ledger.{Ledger, Mark, home, out, discarded, markOf, out
 use Rattle.ledger.specs.Calls.{Call}
 use Rattle.ledger.proofs.View.{view-state, facts}
 use Rattle.history.specs.History.{ledgerAfter}
-use Rattle.history.specs.Log.{Shown, shownBy, shownIn}
+use Rattle.ledger.specs.Shown.{Shown, shownBy, shownIn}
 use Rattle.history.specs.Words.{logOf}
 use Rattle.history.specs.Words as Words
 use Rattle.history.specs.Sums as Sums

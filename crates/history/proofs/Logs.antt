@@ -1,36 +1,16 @@
 -- The record's log is the ledger's: a record in step shows what the ledger has, and gives the ledger's answer and what it leaves in the block or
 -- list; by induction over the list. Assumes nothing.
-use mathlib.Core.Path.{_≡_, refl, sym, ap₂, _∙_}
-use mathlib.Core.Bool.{true}
+use mathlib.Core.Path.{_≡_, refl, ap₂, _∙_}
 use mathlib.Core.List.{List, [], _∷_}
 use Rattle.layout.specs.declared.Setup.{Setup}
-use Rattle.ring.specs.Parts.{queueOf, stateOf}
-use Rattle.ring.proofs.Numbers.{table-same}
-use Rattle.ring.proofs.Wide.{Wide}
 use Rattle.stream.specs.declared.Stream.{Stream}
-use Rattle.stream.specs.Sound.{sound}
-use Rattle.ledger.specs.Ledger.{Ledger, openedLedger, stateIn}
-use Rattle.ledger.specs.Record.{view}
+use Rattle.ledger.specs.Ledger.{Ledger, openedLedger}
+use Rattle.ledger.specs.Shown.{shownBy, shownIn}
 use Rattle.ledger.specs.Calls.{Call, stepOf, made}
-use Rattle.ledger.proofs.View.{view-state, view-outs}
+use Rattle.ledger.proofs.Shown.{view-shown}
 use Rattle.history.specs.History.{ledgerAfter, recordAfter}
-use Rattle.history.specs.Log.{Line, shownBy, shownIn, recordLog, ledgerLog}
+use Rattle.history.specs.Log.{Line, recordLog, ledgerLog}
 use Rattle.history.proofs.Runs.{InStep, in-step, in-step-made, in-step-next}
-
--- a sound record shows what its own ledger has
-view-shown : (r : Stream) → sound r ≡ true → Wide (r .ring) → shownBy r ≡ shownIn (r .setup) (view r)
-unfolding shownBy shownIn view
-view-shown r ok wide =
-    λ i.
-    record {
-      states = table-same (stateOf (r .ring)) (stateIn (view r)) (r .setup .slots) (λ j h. sym (view-state r ok wide j h)) i;
-      queue = queueOf (r .ring);
-      outCount = sym (view-outs r ok wide) i;
-      hand = r .hand;
-      started = r .flags .started;
-      armed = r .flags .armed;
-      counters = r .stats;
-    }
 
 module _ (s : Setup) (r : Stream) (l : Ledger) (k : InStep s r l) where
   pub in-step-shown : shownBy r ≡ shownIn s l

@@ -12,8 +12,9 @@ use Rattle.stream.specs.declared.Stream.{Stream}
 use Rattle.stream.specs.declared.IsoStats.{IsoStats}
 use Rattle.stream.specs.Sound.{sound}
 use Rattle.ledger.specs.Calls.{Call}
+use Rattle.ledger.specs.Shown.{shownBy, shownIn}
 use Rattle.history.specs.History.{ledgerAfter, recordAfter}
-use Rattle.history.specs.Log.{shownBy, shownIn, recordLog, ledgerLog}
+use Rattle.history.specs.Log.{recordLog, ledgerLog}
 use Rattle.history.specs.Words.{Entry, logOf, isOut, inHand, neverLeft, lastReturn}
 use Rattle.history.specs.Sums as Sums
 

@@ -1,54 +1,12 @@
 -- What is compared after each call of a list: by the record, and by the ledger. Logs are held newest first, as histories are.
 use Prim.Native.Nat.{ℕ}
-use mathlib.Core.Bool.{Bool}
 use mathlib.Core.List.{List, [], _∷_}
 use Rattle.layout.specs.declared.Setup.{Setup}
-use Rattle.ring.specs.declared.Hand.{Hand}
-use Rattle.ring.specs.declared.SlotState.{SlotState}
-use Rattle.ring.specs.Counts.{table}
-use Rattle.ring.specs.Parts.{queueOf, stateOf}
 use Rattle.stream.specs.declared.Answer.{Answer}
-use Rattle.stream.specs.declared.IsoStats.{IsoStats}
 use Rattle.stream.specs.declared.Stream.{Stream}
-use Rattle.ledger.specs.Ledger.{Ledger, outs, stateIn}
+use Rattle.ledger.specs.Shown.{Shown, shownBy, shownIn}
 use Rattle.ledger.specs.Calls.{Call, stepOf, made}
 use Rattle.history.specs.History.{ledgerAfter, recordAfter}
-
--- States, queue, out count, hand, flags, counters.
-pub record Shown : Type 0 where
-  pub states : List SlotState
-  pub queue : List ℕ
-  pub outCount : ℕ
-  pub hand : Hand
-  pub started : Bool
-  pub armed : Bool
-  pub counters : IsoStats
-
--- What a record shows.
-unfoldable pub shownBy : Stream → Shown
-shownBy r =
-    record {
-      states = table (stateOf (r .ring)) (r .setup .slots);
-      queue = queueOf (r .ring);
-      outCount = r .ring .«in_flight»;
-      hand = r .hand;
-      started = r .flags .started;
-      armed = r .flags .armed;
-      counters = r .stats;
-    }
-
--- What a ledger of a ring with opening's values s has.
-unfoldable pub shownIn : Setup → Ledger → Shown
-shownIn s l =
-    record {
-      states = table (stateIn l) (s .slots);
-      queue = l .queue;
-      outCount = outs (l .marks);
-      hand = l .hand;
-      started = l .started;
-      armed = l .armed;
-      counters = l .totals;
-    }
 
 -- A call's line: its answer, what it left in the block or the list that was lent, and what is shown after it.
 pub record Line : Type 0 where

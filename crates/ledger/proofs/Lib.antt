@@ -9,4 +9,5 @@ pub mod Found
 pub mod Rings
 pub mod InHand
 pub mod Calls
+pub mod Shown
 pub mod Order

@@ -8,6 +8,7 @@ pub mod Submitted
 pub mod Reaped
 pub mod Control
 pub mod Record
+pub mod Shown
 pub mod Calls
 pub mod Told
 pub mod Gives
