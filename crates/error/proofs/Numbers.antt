@@ -1,10 +1,12 @@
--- Number and value tell all refusals apart: a table by the number gives each refusal back. Assumes nothing.
+-- Number and value tell all refusals apart, since a table by the number gives each refusal back; and no number is 0, since 0 would give back what
+-- has 1. Assumes nothing.
 use Prim.Native.Nat.{ℕ, _-_}
-use mathlib.Core.Path.{_≡_, refl}
+use native.Mathlib.Omega.{arith}
+use mathlib.Core.Path.{_≡_, refl, sym, ap, _∙_}
 use mathlib.Core.List.{List, [], _∷_}
 use lib.ListN.{getD}
 use Rattle.error.specs.declared.Error.{Error}
-use Rattle.error.specs.declared.Error.the-variants.{TooFewSlots, ZeroSize, TooManyPackets, LayoutOverflow, TooLarge, BlockLength, BaseAddress, Unsound, WrongHand, CommitTooLong, PacketCount, PacketTooLong, Disconnected, UsbfsMemory, PermissionDenied, Unsupported, Io, StrayNotice, Underrun, ListTooShort, UnsupportedSpeed, InvalidInterval, ZeroPacketBytes, ZeroPackets, ProductOverflow, NotIsochronous, IntervalUnknown, PacketSizeUnknown, PacketBytesTooLarge, InvalidEndpoint}
+use Rattle.error.specs.declared.Error.the-variants.{TooFewSlots, ZeroSize, TooManyPackets, LayoutOverflow, TooLarge, BlockLength, BaseAddress, Unsound, WrongHand, CommitTooLong, PacketCount, PacketTooLong, Disconnected, UsbfsMemory, PermissionDenied, Unsupported, Io, StrayNotice, Underrun, ListTooShort, UnsupportedSpeed, InvalidInterval, ZeroPacketBytes, ZeroPackets, ProductOverflow, NotIsochronous, IntervalUnknown, PacketSizeUnknown, PacketBytesTooLarge, InvalidEndpoint, NotAnImage}
 use Rattle.error.specs.Number.{numberOf, valueOf}
 
 -- the refusals in the order of their numbers, from 1 on, with that value
@@ -40,6 +42,7 @@ refusals value =
     ∷ PacketSizeUnknown
     ∷ PacketBytesTooLarge
     ∷ InvalidEndpoint
+    ∷ NotAnImage
     ∷ []
 
 pub refusalFrom : ℕ → ℕ → Error
@@ -77,3 +80,10 @@ refusal-back IntervalUnknown = refl
 refusal-back PacketSizeUnknown = refl
 refusal-back PacketBytesTooLarge = refl
 refusal-back InvalidEndpoint = refl
+refusal-back NotAnImage = refl
+
+pub never-0 : (e : Error) → numberOf e ≡ 0 → ⊥
+unfolding refusalFrom refusals
+never-0 e z =
+    let one : numberOf e ≡ 1 = ap numberOf (sym (refusal-back e) ∙ ap (λ (n : ℕ). refusalFrom n (valueOf e)) z) in
+    omega arith

@@ -44,6 +44,8 @@ pub enum Error {
     PacketSizeUnknown,
     PacketBytesTooLarge,
     InvalidEndpoint,
+    // Calls from C: 31.
+    NotAnImage,
 }
 
 // Which call an errno came from: a submission, with the ring's payload bytes, or another.
@@ -106,6 +108,7 @@ impl Error {
             Error::PacketSizeUnknown => 28,
             Error::PacketBytesTooLarge => 29,
             Error::InvalidEndpoint => 30,
+            Error::NotAnImage => 31,
         }
     }
 
