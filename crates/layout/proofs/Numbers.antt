@@ -1,6 +1,8 @@
--- A setup is read back from its numbers. By the cases of policy and tag. Assumes nothing.
+-- A setup whose endpoint and silence byte are bytes is read back from its numbers. By the cases of policy and tag. Assumes nothing.
+use Prim.Native.Nat.{ℕ, _%_, _<_}
 use mathlib.Core.Path.{_≡_, refl}
 use mathlib.Core.Bool.{Bool, true, false, cond}
+use native.Mathlib.Omega.{arith}
 use lib.Dec.{eqb}
 use Rattle.layout.specs.declared.Setup.{Setup}
 use Rattle.layout.specs.declared.Underrun.{Underrun}
@@ -17,17 +19,20 @@ tag-back : (b : Bool) → eqb (cond b 1 0) 1 ≡ b
 tag-back true = refl
 tag-back false = refl
 
-pub setup-back : (s : Setup) → setupFrom (setupNumbers s) ≡ s
+byte-back : (v : ℕ) → v < 256 → v % 256 ≡ v
+byte-back v h = omega arith
+
+pub setup-back : (s : Setup) → s .endpoint < 256 → s .«silence_byte» < 256 → setupFrom (setupNumbers s) ≡ s
 unfolding setupFrom setupNumbers
-setup-back s =
+setup-back s e b =
     λ i.
     record {
       slots = s .slots;
       «packets_per_urb» = s .«packets_per_urb»;
       «packet_bytes» = s .«packet_bytes»;
-      endpoint = s .endpoint;
+      endpoint = byte-back (s .endpoint) e i;
       underrun = policy-back (s .underrun) i;
-      «silence_byte» = s .«silence_byte»;
+      «silence_byte» = byte-back (s .«silence_byte») b i;
       base = s .base;
       tagged = tag-back (s .tagged) i;
     }
