@@ -5,6 +5,8 @@ pub mod Queue
 pub mod Hands
 pub mod Wide
 pub mod States
+pub mod Restored
 pub mod Sound
 pub mod Walk
 pub mod Pigeonhole
+pub mod Made

@@ -6,10 +6,10 @@ use native.Mathlib.Numerals.{add-one}
 use native.Mathlib.Omega.{arith}
 use mathlib.Core.Path.{_≡_, refl, sym, ap, ap₂, _∙_}
 use mathlib.Core.Bool.{true}
-use mathlib.Core.List.{List, [], _∷_, _++_}
+use mathlib.Core.List.{List, [], _∷_, _++_, append-nil}
 use mathlib.Core.Logic.{⊎-elim}
-use lib.ListN.{length, getD, set, replicate, length-append, length-replicate, List·getD-append}
-use lib.Seq.{ext-getD, getD-append-add, set-at, append-snoc}
+use lib.ListN.{length, getD, set, drop, replicate, length-append, length-replicate, List·getD-append}
+use lib.Seq.{ext-getD, getD-append-add, set-at, append-snoc, drop-cons, drop-length}
 use Rattle.ring.specs.Counts.{slotNumbers, table, times, allBelow}
 use Rattle.ring.proofs.Counts.{last-or-below, times-append, times-same, times-other, below-append, below-one}
 
@@ -78,6 +78,19 @@ module _ {A : Type 0} (figure : ℕ → A) where
   table-is d n l long same =
       ext-getD d _ _ (table-long n ∙ sym long)
       (λ i h. let below : i < n = rw table-long at h in table-at d n i below ∙ same i below)
+
+-- a table that takes the place of a list's front, with one figure more
+module _ (f : ℕ → ℕ) (l : List ℕ) where
+  pub table-put : (i v : ℕ) → i < length l → v ≡ f i → set (table f i ++ drop i l) i v ≡ table f (i + 1) ++ drop (i + 1) l
+  unfolding table
+  table-put i v h e =
+      rw (add-one, drop-cons l i 0)
+      (set-at (table f i) (getD l i 0) (drop (suc i) l) v i (table-long f i)
+      ∙ rw e (sym (append-snoc (table f i) (f i) (drop (suc i) l))))
+
+  -- all of it
+  pub table-whole : (i : ℕ) → i ≡ length l → table f i ++ drop i l ≡ table f (length l)
+  table-whole i e = rw (e, drop-length l) (append-nil (table f (length l)))
 
 -- the same figures
 pub table-same : {A : Type 0} (f g : ℕ → A) (n : ℕ) → ((i : ℕ) → i < n → f i ≡ g i) → table f n ≡ table g n

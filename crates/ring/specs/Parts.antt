@@ -1,12 +1,13 @@
 -- What a ring shows, queue and states, the ring with one of its parts changed, and a fresh ring. Other crates know the states by stateOf,
--- withState and withStates alone.
+-- withState, withStates and ringWith alone.
 use Prim.Native.Nat.{ℕ, zero, suc, _-_}
 use mathlib.Core.List.{List, _++_}
 use lib.ListN.{length, take, drop, getD, set, replicate}
 use Rattle.ring.specs.declared.SlotState.{SlotState}
 use Rattle.ring.specs.declared.SlotState.the-variants.{Free}
 use Rattle.ring.specs.declared.Ring.{Ring}
-use Rattle.ring.specs.Counts.{slotNumbers}
+use Rattle.ring.specs.Slots.{isOut}
+use Rattle.ring.specs.Counts.{slotNumbers, howMany}
 
 -- The free queue, front first.
 unfoldable pub queueOf : Ring → List ℕ
@@ -55,3 +56,15 @@ freeRing n =
       «free_len» = n;
       «in_flight» = 0;
     }
+
+-- A ring of n slots with these states, these places of the queue, of which so many are used, and the true out count. The slots that it
+-- doesn't have are Free.
+unfoldable pub ringWith : ℕ → (ℕ → SlotState) → List ℕ → ℕ → Ring
+ringWith n state free used =
+    withStates n state
+    (record {
+      states = replicate 256 (record { state = Free });
+      free = free;
+      «free_len» = used;
+      «in_flight» = howMany n (λ i. isOut (state i));
+    })

@@ -1,6 +1,8 @@
 // The ring's slots and its free queue, the hand, and the test that they are sound.
 // The queue is held front first, in the first free_len places of `free`. What stands behind it, and the states of slots
 // that the ring doesn't have, are never looked at and never change.
+mod codes;
+
 ghost use mathlib.Core.Path.{_≡_};
 ghost use mathlib.Core.Bool.{false};
 ghost use mathlib.Core.List.{_++_};
