@@ -1,0 +1,3 @@
+pub mod CString
+pub mod Refusals
+pub mod Lines
