@@ -52,7 +52,7 @@ answerFrom n =
     ∷ [])
     (n .kind) Answer.Yes
 
-one-back : (b : Bool) → eqb (one b) 1 ≡ b
+pub one-back : (b : Bool) → eqb (one b) 1 ≡ b
 unfolding one
 one-back true = refl
 one-back false = refl

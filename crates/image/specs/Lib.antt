@@ -1,0 +1,4 @@
+pub mod Words
+pub mod Parts
+pub mod Image
+pub mod Reading

@@ -1,0 +1,15 @@
+// The image of a record: its bytes, as a C host keeps them. Reading says whether bytes begin with the image of the
+// record that stands in them, and gives that record; writing stores a record's image over the old one.
+mod numbers;
+mod read;
+mod words;
+mod write;
+
+pub use numbers::bit;
+pub use numbers::size;
+pub use read::Read;
+pub use read::policy_from;
+pub use read::read_image;
+pub use words::get_words;
+pub use words::put_words;
+pub use write::write_image;
