@@ -11,3 +11,4 @@ pub mod InHand
 pub mod Calls
 pub mod Shown
 pub mod Order
+pub mod Numbered

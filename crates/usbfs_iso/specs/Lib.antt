@@ -1,0 +1,5 @@
+pub mod Told
+pub mod FromC
+pub mod Calls
+pub mod Open
+pub mod Figures
