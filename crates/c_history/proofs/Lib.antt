@@ -1,0 +1,2 @@
+pub mod AfterC
+pub mod Demand3
