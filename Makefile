@@ -1,5 +1,7 @@
-# The two commands of README.md, the comparison with the Rust (docs/RUNS.md) and the benchmark (docs/PERFORMANCE.md).
-.PHONY: run test compare bench
+# The two commands of README.md, the comparison with the Rust (docs/RUNS.md), the benchmark (docs/PERFORMANCE.md), and
+# the library for C: `make lib` proves it and builds it in build/, `make install` puts it and its header below DESTDIR
+# and PREFIX.
+.PHONY: run test compare bench lib install
 
 run:
 	@rt check counter
@@ -18,3 +20,23 @@ compare:
 
 bench:
 	@tests/bench
+
+lib:
+	@rt staticlib usbfs_iso >/dev/null
+	@mkdir -p build
+	@cp target/staticlib/libusbfs_iso.a build/libusbfs_iso.a
+	@sed 's|@PREFIX@|/usr/local|' usbfs_iso.pc.in >build/usbfs_iso.pc
+
+build/libusbfs_iso.a:
+	@$(MAKE) --no-print-directory lib
+
+PREFIX = /usr/local
+DESTDIR =
+ROOT = $(DESTDIR)$(PREFIX)
+
+install: build/libusbfs_iso.a
+	@install -d '$(ROOT)/include' '$(ROOT)/lib/pkgconfig'
+	@install -m 644 include/usbfs_iso.h '$(ROOT)/include/usbfs_iso.h'
+	@install -m 644 build/libusbfs_iso.a '$(ROOT)/lib/libusbfs_iso.a'
+	@sed 's|@PREFIX@|$(PREFIX)|' usbfs_iso.pc.in >'$(ROOT)/lib/pkgconfig/usbfs_iso.pc'
+	@chmod 644 '$(ROOT)/lib/pkgconfig/usbfs_iso.pc'
