@@ -2,7 +2,7 @@
 //! published Rust, in one run and in the same block: nanoseconds a cycle, and the ratio.
 //!
 //! bench                                      the table
-//! bench SIDE SLOTS PACKETS BYTES CYCLES      the cycles of one side alone (rust, value, lent), for an instruction count
+//! bench SIDE SLOTS PACKETS BYTES CYCLES      the cycles of one side alone (rust, value, lent, c), for an instruction count
 
 use std::sync::OnceLock;
 use std::time::Instant;
@@ -27,6 +27,16 @@ extern "C" {
         len: usize,
     ) -> u64;
     fn usbfs_iso_lent_cycles(
+        p: usize,
+        b: usize,
+        base: usize,
+        at: *const usize,
+        n: usize,
+        rounds: usize,
+        block: *mut u8,
+        len: usize,
+    ) -> u64;
+    fn usbfs_iso_c_cycles(
         p: usize,
         b: usize,
         base: usize,
@@ -100,7 +110,7 @@ impl Ring {
 }
 
 fn table() {
-    println!("slots packets |   Rust ns | by value ns  ratio |   lent ns  ratio");
+    println!("slots packets |   Rust ns | by value ns  ratio |   lent ns  ratio | from C ns  ratio  to lent");
     for n in SLOTS {
         for p in PACKETS {
             let mut ring = Ring::new(n, p, BYTES);
@@ -108,8 +118,10 @@ fn table() {
             let rust = (0..GOES).map(|_| ring.rust(count)).min().expect("goes") as f64 / count as f64;
             let value = ring.proved_cycle(usbfs_iso_cycles, count);
             let lent = ring.proved_cycle(usbfs_iso_lent_cycles, count);
-            let (by_value, by_lent) = (value / rust, lent / rust);
-            println!("{n:5} {p:7} | {rust:9.1} | {value:11.1} {by_value:6.2} | {lent:9.1} {by_lent:6.2}");
+            let c = ring.proved_cycle(usbfs_iso_c_cycles, count);
+            let (by_value, by_lent, by_c, to_lent) = (value / rust, lent / rust, c / rust, c / lent);
+            print!("{n:5} {p:7} | {rust:9.1} | {value:11.1} {by_value:6.2} | {lent:9.1} {by_lent:6.2} | ");
+            println!("{c:9.1} {by_c:6.2} {to_lent:8.2}");
         }
     }
 }
@@ -123,6 +135,7 @@ fn one(words: &[String]) -> Option<()> {
         "rust" => ring.rust(count),
         "value" => ring.proved(usbfs_iso_cycles, count),
         "lent" => ring.proved(usbfs_iso_lent_cycles, count),
+        "c" => ring.proved(usbfs_iso_c_cycles, count),
         _ => return None,
     };
     Some(())
