@@ -154,7 +154,7 @@ pub enum Underrun {
     Error,
 }
 
-// Opening's values but the block, in the paper's order.
+// Opening's values but the block, with no padding behind the last (see stream::Stream).
 pub struct Setup {
     pub slots: usize,
     pub packets_per_urb: usize,
@@ -162,8 +162,8 @@ pub struct Setup {
     pub endpoint: u8,
     pub underrun: Underrun,
     pub silence_byte: u8,
-    pub base: usize,
     pub tagged: bool,
+    pub base: usize,
 }
 
 // Where a slot's parts lie in the block, the bytes of its payload and its packets.

@@ -25,13 +25,14 @@ pub struct Flags {
     pub armed: bool,
 }
 
-// All that the stream keeps: opening's values, slots and queue, the hand, flags and counters.
+// All that the stream keeps: counters, the hand, opening's values, slots and queue, flags. No padding stands before the
+// ring: the compiler would copy the ring's arrays together with it, out of step with their alignment.
 pub struct Stream {
+    pub stats: IsoStats,
+    pub hand: Hand,
     pub setup: Setup,
     pub ring: Ring,
-    pub hand: Hand,
     pub flags: Flags,
-    pub stats: IsoStats,
 }
 
 // What the kernel answered to SUBMITURB.
