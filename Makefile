@@ -22,12 +22,13 @@ bench:
 	@tests/bench
 
 lib:
-	@rt staticlib usbfs_iso >/dev/null
 	@mkdir -p build
+	@rt staticlib usbfs_iso >build/lib.log || { cat build/lib.log; exit 1; }
 	@cp target/staticlib/libusbfs_iso.a build/libusbfs_iso.a
 	@sed 's|@PREFIX@|/usr/local|' usbfs_iso.pc.in >build/usbfs_iso.pc
 
-build/libusbfs_iso.a:
+# An archive that is older than a source is made again before it is installed.
+build/libusbfs_iso.a: crates.txt $(shell find crates -name '*.rt' -o -name '*.antt')
 	@$(MAKE) --no-print-directory lib
 
 PREFIX = /usr/local
