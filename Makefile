@@ -3,33 +3,29 @@
 # and PREFIX.
 .PHONY: run test compare bench lib install
 
-run:
-	@rt check counter
-	@target/bin/counter <crates/counter/stdin
+run: build/replay
+	@build/replay --screen <examples/session.runs
 
 test:
 	@tests/all
 
 RUNS = 1000
 SEED = 1
-WITH =
 
-compare:
-	@rt check beside
-	@WITH='$(WITH)' tests/beside_rust '$(RUNS)' '$(SEED)'
+compare: build/libusbfs_iso.a
+	@tests/beside_rust '$(RUNS)' '$(SEED)'
 
-bench:
+bench: build/libusbfs_iso.a
 	@tests/bench
 
-lib:
-	@mkdir -p build
-	@rt staticlib usbfs_iso >build/lib.log || { cat build/lib.log; exit 1; }
-	@cp target/staticlib/libusbfs_iso.a build/libusbfs_iso.a
-	@sed 's|@PREFIX@|/usr/local|' usbfs_iso.pc.in >build/usbfs_iso.pc
+lib: build/libusbfs_iso.a
 
-# An archive that is older than a source is made again before it is installed.
-build/libusbfs_iso.a: crates.txt $(shell find crates -name '*.rt' -o -name '*.antt')
-	@$(MAKE) --no-print-directory lib
+# Proved again when a source is newer.
+build/libusbfs_iso.a: crates.txt usbfs_iso.pc.in $(shell find crates -name '*.rt' -o -name '*.antt')
+	@tools/lib
+
+build/replay: $(wildcard examples/replay/*) include/usbfs_iso.h build/libusbfs_iso.a
+	@$(CC) -std=c11 -O2 -Wall -Wextra -I include examples/replay/*.c build/libusbfs_iso.a -o build/replay
 
 PREFIX = /usr/local
 DESTDIR =

@@ -2,7 +2,7 @@
 
 use std::time::Duration;
 
-use form::{kind, Answer, Hand, Opening, Rng};
+use form::{image_size, kind, Answer, Hand, Listener, Opening, Rng};
 
 use crate::device::UsbFsDevice;
 use crate::iso::{IsoOut, Slot, Underrun};
@@ -12,15 +12,15 @@ use crate::ring::{look, RingLayout};
 use crate::schedule::Depth;
 use crate::Speed;
 
-/// The run's bytes, the lines that the Rust shows for it, and how many calls it has. Its block is at most that long.
-pub fn play(seed: u64, longest_block: u64) -> (Vec<u8>, Vec<u8>, u64) {
+/// Plays the run of this seed, and tells the listener of every call. Its block is at most that long.
+pub fn play(seed: u64, longest_block: u64, listener: Box<dyn Listener>) -> Box<dyn Listener> {
     let mut rng = Rng::new(seed);
     let rates = Rates::drawn(&mut rng);
     let (opening, stride) = draw_opening(&mut rng, longest_block);
     // A few runs are long enough to go round the whole ring.
     let operations = if rng.percent(3) { 3 * opening.n } else { 5 + rng.below(60) };
     script::install(machine());
-    Player::begin_run(rng, rates, opening, stride);
+    Player::begin_run(rng, rates, opening, stride, listener);
     // SAFETY: a descriptor is only passed on to the scripted calls.
     let device = unsafe { UsbFsDevice::from_borrowed_fd(0) };
     let mut out = open(&device, &opening);
@@ -55,7 +55,7 @@ fn draw_opening(rng: &mut Rng, longest_block: u64) -> (Opening, u64) {
         };
         let layout = RingLayout::new(n as usize, p as usize, b as usize).expect("within the limits");
         let block_len = layout.total_bytes as u64;
-        // Long blocks are rare, since every line takes the whole block's checksum.
+        // Long blocks are rare, since every call compares the whole block.
         if block_len > longest_block || block_len > 16_384 && !rng.percent(8) {
             continue;
         }
@@ -66,9 +66,11 @@ fn draw_opening(rng: &mut Rng, longest_block: u64) -> (Opening, u64) {
             endpoint: rng.below(128),
             policy: rng.below(3),
             silence: rng.below(256),
-            block_len,
             base: script::arena() + 64 * rng.below(1024),
             tagged: u64::from(cfg!(target_arch = "aarch64")),
+            block_len,
+            // A little more than the image takes.
+            image_len: image_size(n) + 8,
         };
         return (opening, layout.slot_stride as u64);
     }
@@ -235,10 +237,10 @@ fn beside_the_rust(p: &mut Player) {
     if !p.rng.percent(10) {
         return;
     }
-    let line = p.line();
-    let out = line.out;
-    let in_flight = line.states.iter().filter(|&&s| s == 2).count() as u64;
-    let free = line.queue.first().copied();
+    let shown = p.last();
+    let out = shown.out;
+    let in_flight = shown.states.iter().filter(|&&s| s == 2).count() as u64;
+    let free = shown.queue.first().copied();
     let total = p.opening.block_len;
     let wrong = kind::GIVE_BACK;
     let (kind, argument, lent, answer) = match p.rng.below(6) {

@@ -1,6 +1,6 @@
 //! The functions beside the calls: the published Rust's results.
 
-use form::{function, push_number, Answer, FUNCTIONS, FUNCTION_NUMBERS};
+use form::{function, Figures, Question};
 
 use crate::descriptor::Endpoint;
 use crate::device::UsbFsDevice;
@@ -11,44 +11,13 @@ use crate::ring::RingLayout;
 use crate::schedule::{packet_interval_us, Depth, Schedule};
 use crate::{Error, Result, Speed};
 
-type Question = [u64; FUNCTION_NUMBERS];
-
-/// The line of the published Rust. None where it wraps around 2^64 and the paper says that it differs.
-pub fn expected(q: &Question, to: &mut Vec<u8>) -> Option<()> {
-    let (name, count) = FUNCTIONS[q[0] as usize];
-    let start = to.len();
-    to.extend_from_slice(name.as_bytes());
-    for &argument in &q[1..=count] {
-        to.push(b' ');
-        push_number(to, argument);
-    }
-    to.extend_from_slice(b" =");
-    let result = result(q);
-    if result.is_none() {
-        to.truncate(start);
-    }
-    match result? {
-        Ok(values) => {
-            for value in values {
-                to.push(b' ');
-                match value {
-                    Some(v) => push_number(to, v),
-                    None => to.push(b'?'),
-                }
-            }
-        }
-        Err(e) => {
-            to.push(b' ');
-            // The builder's refusal of an endpoint has a number of its own.
-            let (number, value) = match (q[0], refusal(&e)) {
-                (function::BUILD, (26, None)) => (30, None),
-                (_, known) => known,
-            };
-            Answer::Refused(number, value).push(to);
-        }
-    }
-    to.push(b'\n');
-    Some(())
+/// What the published Rust gives. None where it wraps around 2^64 and the paper says that it differs.
+pub fn expected(q: &Question) -> Option<Figures> {
+    Some(result(q)?.map_err(|e| match (q[0], refusal(&e)) {
+        // The builder's refusal of an endpoint has a number of its own.
+        (function::BUILD, (26, None)) => (30, 0),
+        (_, (number, value)) => (number, value.unwrap_or(0)),
+    }))
 }
 
 type Values = Vec<Option<u64>>;
@@ -64,11 +33,11 @@ fn result(q: &Question) -> Option<Result<Values>> {
         }
         function::BYTES_PER_INTERVAL => Ok(vec![Some(endpoint(1, a, 1).bytes_per_interval() as u64)]),
         function::DERIVE => {
-            let (speed, depth, packets) = (Speed::from_raw(a as i32), depth(d, q[5]), packets(q[6], q[7]));
+            let (speed, depth, packets) = (Speed::from_raw(a as u32 as i32), depth(d, q[5]), packets(q[6], q[7]));
             Schedule::derive(speed, b as u8, c as usize, depth, packets).map(|s| schedule(&s))
         }
         function::PLAN => {
-            let (speed, depth, packets) = (Speed::from_raw(a as i32), depth(q[5], q[6]), packets(q[7], q[8]));
+            let (speed, depth, packets) = (Speed::from_raw(a as u32 as i32), depth(q[5], q[6]), packets(q[7], q[8]));
             plan(speed, &endpoint(b, c, d), depth, packets).map(|s| schedule(&s))
         }
         function::FROM_ERRNO => {

@@ -1,8 +1,6 @@
 //! What the functions are asked: exhaustive where the inputs are few, at every boundary else.
 
-use form::{function, FUNCTION_NUMBERS};
-
-type Question = [u64; FUNCTION_NUMBERS];
+use form::{function, Question, FUNCTION_NUMBERS};
 
 /// Counts around which layouts change or overflow.
 const SIZES: [u64; 22] = [
@@ -73,6 +71,8 @@ pub fn inputs(ask: &mut dyn FnMut(Question)) {
     layouts(ask);
     for raw in (0..300).chain([0x7fff_ffff, 0x8000_0000]).chain(0xffff_ff00..=0xffff_ffff) {
         ask(question(function::FROM_RAW, &[raw]));
+        ask(question(function::DERIVE, &[raw, 4, 192, 0, 8, 1, 8]));
+        ask(question(function::PLAN, &[raw, 1, 192, 4, 0, 8, 1, 8]));
     }
     for size in 0..256 {
         for qualifier in 0..2 {

@@ -1,11 +1,11 @@
-//! Makes the list of our calls, and the line of each, while the Rust runs.
+//! Makes the list of our calls while the Rust runs, and tells the listener what came of each.
 //!
 //! One operation of the Rust is several of our calls. A call is open from the moment that its arguments are known until
 //! the Rust shows what came of it: by its next ioctl, by looking at the clock, or by returning.
 
 use std::cell::RefCell;
 
-use form::{kind, Answer, Call, Hand, Line, Opening, Rng, Writer};
+use form::{kind, Answer, Call, Hand, Listener, Opening, Rng, Shown};
 
 use crate::error::ErrnoContext;
 use crate::kernel::Rates;
@@ -49,10 +49,10 @@ pub(crate) struct Player {
     writes: Vec<(u64, u32)>,
     completion: Option<Completion>,
     silent: u64,
-    number: u64,
-    last: Option<Line>,
-    run: Writer,
-    lines: Vec<u8>,
+    /// The call that is open; none while the opening is.
+    pending: Option<Call>,
+    last: Option<Shown>,
+    listener: Box<dyn Listener>,
 }
 
 thread_local! {
@@ -69,9 +69,7 @@ pub(crate) fn completed(completion: Completion) {
 }
 
 impl Player {
-    pub(crate) fn begin_run(rng: Rng, rates: Rates, opening: Opening, stride: u64) {
-        let mut run = Writer::default();
-        run.run(&opening);
+    pub(crate) fn begin_run(rng: Rng, rates: Rates, opening: Opening, stride: u64, listener: Box<dyn Listener>) {
         let player = Player {
             rng,
             rates,
@@ -85,20 +83,18 @@ impl Player {
             writes: Vec::new(),
             completion: None,
             silent: 0,
-            number: 0,
+            pending: None,
             last: None,
-            run,
-            lines: Vec::new(),
+            listener,
         };
         PLAYER.with(|p| *p.borrow_mut() = Some(player));
     }
 
-    /// The run's bytes, its lines, and how many calls it has.
-    pub(crate) fn end_run() -> (Vec<u8>, Vec<u8>, u64) {
+    /// Hands the listener back.
+    pub(crate) fn end_run() -> Box<dyn Listener> {
         let mut player = PLAYER.with(|p| p.borrow_mut().take()).expect("no run is played");
-        player.emit();
-        player.run.end();
-        (player.run.bytes, player.lines, player.number - 1)
+        player.listener.ended();
+        player.listener
     }
 
     fn place(&self) -> *mut [u8] {
@@ -129,7 +125,8 @@ impl Player {
     pub(crate) fn call(&mut self, kind: u64, argument: u64, lent: u64, lengths: &[u64]) {
         let writes = std::mem::take(&mut self.writes);
         let lengths = lengths.to_vec();
-        self.run.call(&Call { kind, argument, lent, writes, lengths });
+        assert!(self.pending.is_none(), "the call before it is still open");
+        self.pending = Some(Call { kind, argument, lent, writes, lengths });
     }
 
     pub(crate) fn begin(&mut self, kind: u64, argument: u64, lengths: &[u64], open: Open) {
@@ -140,27 +137,28 @@ impl Player {
         }
     }
 
-    /// A call's line, as the Rust stands now.
+    /// The open call has ended: this is its answer, and what is shown after it.
+    fn tell(&mut self, answer: &Answer, shown: Shown) {
+        // SAFETY: as in `block`; the listener has no other way to it.
+        let block = unsafe { &*self.place() };
+        match self.pending.take() {
+            None => self.listener.opened(&self.opening, &answer.told(0), &shown, block),
+            Some(call) => self.listener.called(&call, &answer.told(call.places()), &shown, block),
+        }
+        self.last = Some(shown);
+    }
+
+    /// A call has ended, as the Rust stands now.
     pub(crate) fn shown(&mut self, answer: Answer, hand: Hand) {
-        self.emit();
         self.open = Open::No;
         let (out, states, queue) = look(|r| (r.in_flight() as u64, states(r), queue(r)));
-        let checksum = form::checksum(self.block());
-        let (flags, totals) = (None, None);
-        let number = self.number;
-        self.number += 1;
-        self.last = Some(Line { number, answer, hand, out, flags, totals, states, queue, checksum });
+        self.tell(&answer, Shown { hand, out, flags: None, totals: None, states, queue });
     }
 
     /// A call of which the paper says that nothing differs, and which the Rust doesn't have.
     pub(crate) fn unchanged(&mut self, answer: Answer) {
-        let mut line = self.last.clone().expect("the opening has a line");
-        self.emit();
-        line.answer = answer;
-        line.number = self.number;
-        line.checksum = form::checksum(self.block());
-        self.number += 1;
-        self.last = Some(line);
+        let shown = self.last().clone();
+        self.tell(&answer, shown);
     }
 
     /// Now and then a call that wants another hand: 9, and nothing differs.
@@ -174,19 +172,15 @@ impl Player {
 
     /// After the operation: the flags and totals that go with its last call.
     pub(crate) fn full(&mut self, flags: [bool; 2], totals: [u64; 8]) {
-        if let Some(line) = &mut self.last {
-            (line.flags, line.totals) = (Some(flags), Some(totals));
+        if let Some(shown) = &mut self.last {
+            (shown.flags, shown.totals) = (Some(flags), Some(totals));
+            self.listener.full(flags, totals);
         }
     }
 
-    pub(crate) fn line(&self) -> &Line {
-        self.last.as_ref().expect("the opening has a line")
-    }
-
-    fn emit(&mut self) {
-        if let Some(line) = self.last.take() {
-            line.push(&mut self.lines);
-        }
+    /// What was shown last.
+    pub(crate) fn last(&self) -> &Shown {
+        self.last.as_ref().expect("the opening shows something")
     }
 
     /// What reaped answered, when the Rust goes on after an address.

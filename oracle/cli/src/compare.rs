@@ -1,197 +1,233 @@
-//! Plays the same runs on the published Rust and on another program, and compares every line.
+//! Makes the calls of a run on the other side while the Rust plays it, and compares all that both give.
 
-use std::io::{self, BufRead, BufReader, BufWriter, Write};
-use std::process::{Child, Command, Stdio};
-use std::sync::mpsc::{sync_channel, Receiver, SyncSender};
+use std::cell::RefCell;
+use std::io::{self, Write};
+use std::rc::Rc;
 
-use form::{Writer, LENT_RUN};
+use form::{function, image_of, Call, Figures, Listener, Opening, Question, Shown, Side, Told};
+use form::{FILLED, FLAGS_AT, IMAGE_ROOM, STATES_AT};
 
-/// One run, or a batch of questions: what the program reads, the lines that the Rust shows, and how many calls.
-pub struct Played {
-    pub name: String,
-    pub bytes: Vec<u8>,
-    pub lines: Vec<u8>,
-    pub calls: u64,
-}
-
-/// How many mismatches are printed in full.
+/// How many mismatches are printed.
 const SHOWN: u64 = 5;
-/// The program may read that many runs ahead of the lines that it has printed.
-const AHEAD: usize = 4096;
-/// Questions are sent that many at a time.
-const BATCH: u64 = 1000;
 
-/// Which runs to generate.
+/// Which runs to play.
 #[derive(Clone, Copy)]
 pub struct Runs {
     pub count: u64,
     pub seed: u64,
     pub longest_block: u64,
-    /// Whether the calls are to be made on a record that is lent.
-    pub is_lent: bool,
 }
 
-/// Generates runs: one in four on the build whose addresses carry a tag.
-pub fn each_run(runs: Runs, to: &mut dyn FnMut(Played) -> io::Result<()>) -> io::Result<()> {
+/// What was compared so far.
+#[derive(Default)]
+pub struct Counts {
+    pub runs: u64,
+    pub calls: u64,
+    pub mismatches: u64,
+    /// Openings and calls at which the Rust shows its flags and counters too.
+    pub full: u64,
+    /// The first mismatches, in words.
+    pub report: Vec<String>,
+}
+
+impl Counts {
+    fn mismatch(&mut self, text: String) {
+        self.mismatches += 1;
+        if self.mismatches <= SHOWN {
+            self.report.push(text);
+        }
+    }
+}
+
+/// One side beside the Rust.
+struct Comparison {
+    side: Box<dyn Side>,
+    counts: Rc<RefCell<Counts>>,
+    seed: u64,
+    opening: Opening,
+    /// The call in the run; 0 is the opening.
+    number: u64,
+    /// Whether that call agrees so far: one that doesn't is counted once.
+    agrees: bool,
+}
+
+impl Comparison {
+    fn differs(&mut self, what: &str, rust: impl std::fmt::Debug, other: impl std::fmt::Debug) {
+        if std::mem::replace(&mut self.agrees, false) {
+            let place = format!("run of seed {}, call {}", self.seed, self.number);
+            self.counts.borrow_mut().mismatch(format!("{place}: {what}\n  the Rust: {rust:?}\n  the other: {other:?}"));
+        }
+    }
+
+    /// The bytes of the flags and of the counters.
+    fn hidden(&self) -> [std::ops::Range<usize>; 2] {
+        let counters = STATES_AT + 5 * self.opening.n as usize;
+        [FLAGS_AT..STATES_AT, counters..counters + 64]
+    }
+
+    /// The image buffer that shows this, with what the Rust does not show as the other side has it.
+    fn expected_image(&self, shown: &Shown) -> Vec<u8> {
+        let mut image = image_of(&self.opening, shown);
+        let [flags, counters] = self.hidden();
+        if shown.flags.is_none() {
+            image[flags.clone()].copy_from_slice(&self.side.image()[flags]);
+        }
+        if shown.totals.is_none() {
+            image[counters.clone()].copy_from_slice(&self.side.image()[counters]);
+        }
+        image.resize(IMAGE_ROOM as usize, FILLED);
+        image
+    }
+
+    fn compare(&mut self, rust: &Told, other: &Told, shown: &Shown, block: &[u8]) {
+        self.agrees = true;
+        if rust != other {
+            self.differs("what the call tells", rust, other);
+        }
+        let out = shown.states.iter().filter(|&&state| state >= 2).count() as u64;
+        if out != shown.out {
+            self.differs("the Rust's out count and its states", shown.out, out);
+        }
+        let image = self.expected_image(shown);
+        if let Some(at) = first_difference(&image, self.side.image()) {
+            self.differs("the image, first at", at, (image.get(at).copied(), self.side.image().get(at).copied()));
+        }
+        if let Some(at) = first_difference(block, self.side.block()) {
+            self.differs("the block, first at", at, (block.get(at).copied(), self.side.block().get(at).copied()));
+        }
+    }
+}
+
+fn first_difference(a: &[u8], b: &[u8]) -> Option<usize> {
+    if a == b {
+        return None;
+    }
+    a.iter().zip(b).position(|(x, y)| x != y).or(Some(a.len().min(b.len())))
+}
+
+impl Listener for Comparison {
+    fn opened(&mut self, opening: &Opening, told: &Told, shown: &Shown, block: &[u8]) {
+        self.opening = *opening;
+        self.number = 0;
+        let other = self.side.open(opening);
+        self.compare(told, &other, shown, block);
+    }
+
+    fn called(&mut self, call: &Call, told: &Told, shown: &Shown, block: &[u8]) {
+        self.number += 1;
+        self.counts.borrow_mut().calls += 1;
+        self.counts.borrow_mut().full += u64::from(shown.flags.is_some());
+        let other = self.side.call(call);
+        self.compare(told, &other, shown, block);
+    }
+
+    fn full(&mut self, flags: [bool; 2], totals: [u64; 8]) {
+        self.counts.borrow_mut().full += 1;
+        let [flags_at, counters_at] = self.hidden();
+        let started_armed: Vec<u8> = flags.iter().flat_map(|&f| u64::from(f).to_le_bytes()).collect();
+        let counters: Vec<u8> = totals.iter().flat_map(|total| total.to_le_bytes()).collect();
+        if self.side.image()[flags_at.clone()] != started_armed {
+            let other = self.side.image()[flags_at].to_vec();
+            self.differs("the flags", flags, other);
+        }
+        if self.side.image()[counters_at.clone()] != counters {
+            let other = self.side.image()[counters_at].to_vec();
+            self.differs("the counters", totals, other);
+        }
+    }
+
+    fn ended(&mut self) {
+        self.counts.borrow_mut().runs += 1;
+    }
+}
+
+/// Plays the run of a seed on the Rust, with this listener: one in four on the build whose addresses carry a tag.
+pub fn play(seed: u64, longest_block: u64, listener: Box<dyn Listener>) -> Box<dyn Listener> {
+    match seed % 4 {
+        0 => usbfs_iso_tagged::play(seed, longest_block, listener),
+        _ => usbfs_iso_plain::play(seed, longest_block, listener),
+    }
+}
+
+/// Compares that side with the Rust on these runs.
+pub fn compare_runs(runs: Runs, mut side: impl FnMut() -> Box<dyn Side>) -> Counts {
+    let counts = Rc::new(RefCell::new(Counts::default()));
     for k in 0..runs.count {
         // Each run has a seed of its own, so that it can be made again alone.
-        let own = runs.seed.wrapping_add(k);
-        let (mut bytes, lines, calls) = match own % 4 {
-            0 => usbfs_iso_tagged::play(own, runs.longest_block),
-            _ => usbfs_iso_plain::play(own, runs.longest_block),
+        let seed = runs.seed.wrapping_add(k);
+        let comparison = Comparison {
+            side: side(),
+            counts: counts.clone(),
+            seed,
+            opening: Opening::default(),
+            number: 0,
+            agrees: true,
         };
-        if runs.is_lent {
-            bytes[..8].copy_from_slice(&LENT_RUN.to_le_bytes());
-        }
-        to(Played { name: format!("run of seed {own}"), bytes, lines, calls })?;
+        play(seed, runs.longest_block, Box::new(comparison));
     }
-    Ok(())
+    counts.take()
 }
 
-fn each_question(to: &mut dyn FnMut(Played) -> io::Result<()>) -> io::Result<()> {
-    let empty = || Played { name: "functions".to_string(), bytes: Vec::new(), lines: Vec::new(), calls: 0 };
-    let mut batch = empty();
-    let mut sent = Ok(());
-    usbfs_iso_plain::inputs(&mut |q| {
-        if usbfs_iso_plain::expected(&q, &mut batch.lines).is_some() {
-            let mut writer = Writer::default();
-            writer.question(&q);
-            batch.bytes.extend_from_slice(&writer.bytes);
-            batch.calls += 1;
-        }
-        if batch.calls == BATCH && sent.is_ok() {
-            sent = to(std::mem::replace(&mut batch, empty()));
-        }
-    });
-    sent?;
-    to(batch)
-}
-
-fn start(with: Option<&str>) -> io::Result<Child> {
-    let mut command = match with {
-        Some(line) => {
-            let mut shell = Command::new("sh");
-            shell.arg("-c").arg(line);
-            shell
-        }
-        None => {
-            let mut own = Command::new(std::env::current_exe()?);
-            own.arg("play");
-            own
-        }
-    };
-    command.stdin(Stdio::piped()).stdout(Stdio::piped()).spawn()
-}
-
-/// Writes what is played to the program, and hands the lines on to the comparison.
-fn feed(child: &mut Child, runs: Option<Runs>, lines: SyncSender<Played>) -> io::Result<()> {
-    let mut to = BufWriter::with_capacity(1 << 16, child.stdin.take().expect("a pipe"));
-    let mut send = |mut played: Played| {
-        let bytes = std::mem::take(&mut played.bytes);
-        // The lines first: a program that prints before it has read the whole run must not wait for the comparison.
-        lines.send(played).map_err(|_| io::Error::from(io::ErrorKind::BrokenPipe))?;
-        to.write_all(&bytes)
-    };
-    match runs {
-        Some(runs) => each_run(runs, &mut send)?,
-        None => each_question(&mut send)?,
-    }
-    to.flush()
-}
-
+/// What was asked, and how much of it the side has.
 #[derive(Default)]
-struct Counts {
-    items: u64,
-    calls: u64,
-    lines: u64,
-    mismatches: u64,
-    /// Words of the Rust's lines, and those among them that are `?`.
-    words: u64,
-    unshown: u64,
+struct Asked {
+    questions: u64,
+    not_had: u64,
+    /// Numbers of results, and those among them that one of the two does not have.
+    numbers: u64,
+    absent: u64,
+    counts: Counts,
 }
 
-/// Compares runs, or all questions, and prints how many there were and how many lines differ. Whether there were any and all
-/// agree.
-pub fn compare(runs: Option<Runs>, with: Option<&str>, out: &mut impl Write) -> io::Result<bool> {
-    let mut child = start(with)?;
-    let mut shown = BufReader::with_capacity(1 << 16, child.stdout.take().expect("a pipe"));
-    let (sender, receiver) = sync_channel(AHEAD);
-    let mut counts = Counts::default();
-    let fed = std::thread::scope(|s| {
-        let feeder = s.spawn(|| feed(&mut child, runs, sender));
-        let compared = compare_lines(&receiver, &mut shown, &mut counts, out);
-        drop(receiver);
-        // A program that goes on after a mismatch in its form must not be left waiting.
-        drop(shown);
-        let fed = feeder.join().expect("the feeder ends");
-        compared.map(|extra| (extra, fed.is_ok()))
-    });
-    let (extra, fed) = fed?;
-    let ended = child.wait()?;
-    let Counts { items, calls, lines, mismatches, words, unshown } = counts;
-    match runs {
-        Some(_) => write!(out, "{items} runs, {calls} calls")?,
-        None => write!(out, "{calls} questions")?,
-    }
-    writeln!(out, ", {lines} lines, {mismatches} mismatches; {unshown} of {words} words are ?")?;
-    if lines == 0 {
-        writeln!(out, "nothing was compared")?;
-        return Ok(false);
-    }
-    if extra || !fed || !ended.success() {
-        writeln!(out, "the other program did not end as it should: {ended}")?;
-        return Ok(false);
-    }
-    Ok(mismatches == 0)
-}
-
-/// Whether the program printed more than was asked for.
-fn compare_lines(
-    expected: &Receiver<Played>,
-    shown: &mut impl BufRead,
-    counts: &mut Counts,
-    out: &mut impl Write,
-) -> io::Result<bool> {
-    let mut line = Vec::new();
-    for played in expected {
-        counts.items += 1;
-        counts.calls += played.calls;
-        for wanted in played.lines.split_inclusive(|&byte| byte == b'\n') {
-            line.clear();
-            shown.read_until(b'\n', &mut line)?;
-            counts.lines += 1;
-            for word in words(wanted.trim_ascii_end()) {
-                counts.words += 1;
-                counts.unshown += u64::from(word == b"?");
+impl Asked {
+    fn compare(&mut self, q: &Question, rust: &Figures, other: &Figures) {
+        self.questions += 1;
+        let agree = match (rust, other) {
+            (Ok(rust), Ok(other)) if rust.len() == other.len() => {
+                let absent = rust.iter().zip(other).filter(|(r, o)| r.is_none() || o.is_none()).count();
+                self.numbers += rust.len() as u64;
+                self.absent += absent as u64;
+                rust.iter().zip(other).all(|(r, o)| r.is_none() || o.is_none() || r == o)
             }
-            if agree(wanted, &line) {
-                continue;
-            }
-            counts.mismatches += 1;
-            if counts.mismatches <= SHOWN {
-                let (wanted, line) = (String::from_utf8_lossy(wanted), String::from_utf8_lossy(&line));
-                writeln!(out, "{}\n  the Rust: {wanted}  the other: {}", played.name, line.trim_end())?;
-            }
-            if line.is_empty() {
-                return Ok(false);
-            }
+            (Err(rust), Err(other)) => rust == other,
+            _ => false,
+        };
+        if !agree {
+            let name = function::NAMES[q[0] as usize];
+            self.counts.mismatch(format!("{name} {:?}\n  the Rust: {rust:?}\n  the other: {other:?}", &q[1..]));
         }
     }
-    line.clear();
-    Ok(shown.read_until(b'\n', &mut line)? > 0)
 }
 
-fn words(line: &[u8]) -> impl Iterator<Item = &[u8]> {
-    line.split(|&byte| byte == b' ')
+/// Asks both for every input of the functions. Whether all agree, and there were any.
+pub fn compare_functions(side: &mut dyn Side, out: &mut impl Write) -> io::Result<bool> {
+    let mut asked = Asked::default();
+    usbfs_iso_plain::inputs(&mut |q| {
+        let Some(rust) = usbfs_iso_plain::expected(&q) else {
+            return;
+        };
+        match side.ask(&q) {
+            Some(other) => asked.compare(&q, &rust, &other),
+            None => asked.not_had += 1,
+        }
+    });
+    let Asked { questions, not_had, numbers, absent, counts } = asked;
+    counts.report.iter().try_for_each(|line| writeln!(out, "{line}"))?;
+    write!(out, "{questions} questions, {} mismatches; {not_had} others not asked here; ", counts.mismatches)?;
+    writeln!(out, "{absent} of {numbers} numbers not compared")?;
+    Ok(questions > 0 && counts.mismatches == 0)
 }
 
-/// Word by word; a `?` stands where the Rust shows nothing.
-fn agree(wanted: &[u8], line: &[u8]) -> bool {
-    let (Some(wanted), Some(line)) = (wanted.strip_suffix(b"\n"), line.strip_suffix(b"\n")) else {
-        return false;
-    };
-    if wanted == line {
-        return true;
+/// Prints what was compared. Whether all agree, and there was anything.
+pub fn tell(counts: &Counts, out: &mut impl Write) -> io::Result<bool> {
+    counts.report.iter().try_for_each(|line| writeln!(out, "{line}"))?;
+    let Counts { runs, calls, mismatches, full, .. } = counts;
+    let both = runs + calls;
+    let hidden = both - full;
+    write!(out, "{runs} runs, {calls} calls, {mismatches} mismatches; ")?;
+    writeln!(out, "flags and counters not shown at {hidden} of {both} openings and calls")?;
+    if *calls == 0 {
+        writeln!(out, "nothing was compared")?;
     }
-    words(wanted).count() == words(line).count() && words(wanted).zip(words(line)).all(|(w, l)| w == l || w == b"?")
+    Ok(*calls > 0 && *mismatches == 0)
 }

@@ -1,65 +1,98 @@
-//! Runs beside the Rust: docs/RUNS.md says what the runs and lines look like.
+//! Runs beside the Rust: docs/RUNS.md says what is compared and what written runs look like.
 
 mod compare;
 mod paper;
+mod spoil;
 
-use std::io::{self, stdin, stdout, BufReader, BufWriter, Write};
+use std::io::{self, stdin, stdout, BufWriter, Write};
 use std::process::ExitCode;
 
 use compare::Runs;
-use form::{pack, BLOCK_LIMIT};
-use paper::Wrong;
+use form::{Call, Listener, Opening, Shown, Side, Told, Writer, BLOCK_LIMIT};
+use library::Library;
+use paper::{Paper, Wrong};
 
 /// The block of the smallest ring.
 const SHORTEST: u64 = 320;
 
 const USAGE: &str = "\
-oracle compare --runs N [--seed S] [--block BYTES] [--lent] [--with COMMAND]
-                                                      plays N runs on the Rust and on COMMAND
-oracle compare --functions [--with COMMAND]           asks both for every input of the functions
-oracle record --runs N [--seed S] [--lent]            writes N runs to standard output
-oracle lines --runs N [--seed S]                      prints the lines that the Rust shows for them
-oracle play [--wrong NAME]                            the paper's own player: reads runs, prints lines
-oracle pack                                           reads runs as text, writes them as bytes
+oracle compare --runs N [--seed S] [--block BYTES]    plays N runs on the Rust and on the library
+oracle compare --functions                            asks both for every input of the functions
+oracle spoil [--seed S] [--block BYTES]               spoils what the library gives: each must be noticed
+oracle record --runs N [--seed S] [--block BYTES]     writes N runs as text
+oracle play                                           the paper's own player: reads runs, prints lines
 oracle wrong                                          prints the names of its deliberate mistakes
-Without --with, the paper's own player is compared. Blocks are at most BYTES long (524288).
-With --lent the calls are made on a record that is lent.";
+With --paper [--wrong NAME] the paper's own player is compared instead. Blocks are at most BYTES long (524288).";
 
 struct Options {
     runs: Runs,
     functions: bool,
-    with: Option<String>,
+    paper: bool,
     wrong: Wrong,
 }
 
 fn options(mut words: impl Iterator<Item = String>) -> Option<Options> {
-    let mut o = Options {
-        runs: Runs { count: 0, seed: 1, longest_block: BLOCK_LIMIT, is_lent: false },
-        functions: false,
-        with: None,
-        wrong: Wrong::None,
-    };
+    let runs = Runs { count: 0, seed: 1, longest_block: BLOCK_LIMIT };
+    let mut o = Options { runs, functions: false, paper: false, wrong: Wrong::None };
     while let Some(word) = words.next() {
         match word.as_str() {
             "--functions" => o.functions = true,
-            "--lent" => o.runs.is_lent = true,
+            "--paper" => o.paper = true,
             "--runs" => o.runs.count = words.next()?.parse().ok()?,
             "--seed" => o.runs.seed = words.next()?.parse().ok()?,
             "--block" => {
                 o.runs.longest_block = words.next()?.parse().ok().filter(|b| (SHORTEST..=BLOCK_LIMIT).contains(b))?
             }
-            "--with" => o.with = Some(words.next()?),
             "--wrong" => o.wrong = Wrong::named(&words.next()?)?,
             _ => return None,
         }
     }
-    Some(o)
+    // A mistake is the paper's own player's.
+    (o.paper || o.wrong == Wrong::None).then_some(o)
 }
 
-/// Makes bytes of the text on standard input.
-fn packed(out: &mut impl Write) -> io::Result<bool> {
-    let bytes = pack(&io::read_to_string(stdin())?).map_err(io::Error::other)?;
-    out.write_all(&bytes).map(|()| true)
+fn side(o: &Options) -> Box<dyn Side> {
+    if o.paper {
+        Box::new(Paper::new(o.wrong))
+    } else {
+        Box::new(Library::default())
+    }
+}
+
+fn compared(o: &Options, out: &mut impl Write) -> io::Result<bool> {
+    if o.functions {
+        return compare::compare_functions(&mut *side(o), out);
+    }
+    let counts = compare::compare_runs(o.runs, || side(o));
+    compare::tell(&counts, out)
+}
+
+/// Writes the runs that it hears of.
+#[derive(Default)]
+struct Recorder(Writer);
+
+impl Listener for Recorder {
+    fn opened(&mut self, opening: &Opening, _told: &Told, _shown: &Shown, _block: &[u8]) {
+        self.0.run(opening);
+    }
+
+    fn called(&mut self, call: &Call, _told: &Told, _shown: &Shown, _block: &[u8]) {
+        self.0.call(call);
+    }
+
+    fn full(&mut self, _flags: [bool; 2], _totals: [u64; 8]) {}
+
+    fn ended(&mut self) {
+        self.0.end();
+        print!("{}", std::mem::take(&mut self.0.text));
+    }
+}
+
+fn recorded(runs: Runs) -> io::Result<bool> {
+    for k in 0..runs.count {
+        compare::play(runs.seed.wrapping_add(k), runs.longest_block, Box::<Recorder>::default());
+    }
+    Ok(true)
 }
 
 fn main() -> ExitCode {
@@ -69,13 +102,12 @@ fn main() -> ExitCode {
         eprintln!("{USAGE}");
         return ExitCode::from(2);
     };
-    let mut out = BufWriter::with_capacity(1 << 16, stdout().lock());
+    let mut out = BufWriter::with_capacity(1 << 16, stdout());
     let done = match command.as_str() {
-        "compare" => compare::compare((!o.functions).then_some(o.runs), o.with.as_deref(), &mut out),
-        "record" => compare::each_run(o.runs, &mut |run| out.write_all(&run.bytes)).map(|()| true),
-        "lines" => compare::each_run(o.runs, &mut |run| out.write_all(&run.lines)).map(|()| true),
-        "play" => paper::play(BufReader::with_capacity(1 << 16, stdin().lock()), &mut out, o.wrong),
-        "pack" => packed(&mut out),
+        "compare" => compared(&o, &mut out),
+        "spoil" => spoil::spoil_all(o.runs, &mut out),
+        "record" => recorded(o.runs),
+        "play" => io::read_to_string(stdin()).and_then(|text| paper::play(&text, o.wrong, &mut out)),
         "wrong" => Wrong::ALL.iter().try_for_each(|w| writeln!(out, "{}", w.0)).map(|()| true),
         _ => {
             eprintln!("{USAGE}");

@@ -1,12 +1,16 @@
-//! The form of recorded runs and of the lines that a player prints, as docs/RUNS.md has it.
+//! What a run is, what its calls give and show, and the form in which runs are written down (docs/RUNS.md).
 
+mod answer;
+mod image;
 mod lines;
-mod pack;
 mod runs;
+mod side;
 
-pub use lines::{checksum, push_number, push_numbers, Answer, Hand, Line};
-pub use pack::pack;
-pub use runs::{Bad, Call, Item, Opening, Reader, Writer, BLOCK_LIMIT, FUNCTION_NUMBERS, LENT_RUN, LIST_LIMIT};
+pub use answer::{Answer, Hand, Told, UNUSED};
+pub use image::{image_of, image_size, FLAGS_AT, SETUP_AT, STATES_AT};
+pub use lines::{checksum, push_number, push_numbers, Line};
+pub use runs::{Bad, Call, Item, Opening, Reader, Writer, BLOCK_LIMIT, IMAGE_ROOM, LIST_LIMIT};
+pub use side::{Figures, Listener, Question, Shown, Side, FILLED, FUNCTION_NUMBERS};
 
 /// The kinds of calls, by their numbers.
 pub mod kind {
@@ -23,6 +27,8 @@ pub mod kind {
     pub const STOP: u64 = 10;
     pub const FINISH: u64 = 11;
     pub const END: u64 = 12;
+    /// No call: what stands in the image's buffer, and how much of it is lent.
+    pub const IMAGE: u64 = 13;
 }
 
 /// The functions beside the calls, by their numbers.
@@ -36,20 +42,18 @@ pub mod function {
     pub const PLAN: u64 = 6;
     pub const FROM_ERRNO: u64 = 7;
     pub const BUILD: u64 = 8;
+    pub const NAMES: [&str; 9] = [
+        "layout",
+        "from_raw",
+        "from_device_probe",
+        "packet_interval_us",
+        "bytes_per_interval",
+        "derive",
+        "plan",
+        "from_errno",
+        "build",
+    ];
 }
-
-/// The names and the argument counts of the functions, by their numbers.
-pub const FUNCTIONS: [(&str, usize); 9] = [
-    ("layout", 3),
-    ("from_raw", 1),
-    ("from_device_probe", 2),
-    ("packet_interval_us", 2),
-    ("bytes_per_interval", 1),
-    ("derive", 7),
-    ("plan", 8),
-    ("from_errno", 3),
-    ("build", 12),
-];
 
 /// Seeded numbers (splitmix64), so that a run can be made again.
 #[derive(Clone)]

@@ -1,56 +1,18 @@
-//! One line a call: nine words with one space between them.
+//! One line a call, as docs/RUNS.md has it.
 
-/// A call's answer.
-#[derive(Clone, Debug, PartialEq)]
-pub enum Answer {
-    Done,
-    /// stop's Done, with the list.
-    Stopped(Vec<u64>),
-    Nothing,
-    Slot(u64),
-    Submit(u64),
-    /// Status, then actual, requested and short bytes, packet errors, discarded (1 or 0).
-    Completion(i64, [u64; 5]),
-    Foreign,
-    Yes,
-    /// The refusal's number, and the value of those that carry one.
-    Refused(u64, Option<u64>),
-}
+use crate::{Answer, Hand, Shown};
 
-#[derive(Clone, Copy, Debug, PartialEq)]
-pub enum Hand {
-    Idle,
-    Held(u64),
-    Sending(u64),
-    Silent(u64, u64),
-}
-
-/// What stands on a line. Absent flags and totals are printed as `?`: not shown by the Rust at that call.
-#[derive(Clone, Debug)]
-pub struct Line {
+/// What stands on a line. Without what is shown it is the short one, of a refusal after which there is no record.
+pub struct Line<'a> {
     pub number: u64,
-    pub answer: Answer,
-    pub hand: Hand,
-    pub out: u64,
-    pub flags: Option<[bool; 2]>,
-    pub totals: Option<[u64; 8]>,
-    pub states: Vec<u8>,
-    pub queue: Vec<u64>,
-    pub checksum: u64,
+    pub answer: &'a Answer,
+    pub shown: Option<Shown>,
+    pub image: &'a [u8],
+    pub block: &'a [u8],
 }
 
-pub fn push_number(to: &mut Vec<u8>, mut value: u64) {
-    let mut digits = [0u8; 20];
-    let mut at = digits.len();
-    loop {
-        at -= 1;
-        digits[at] = b'0' + (value % 10) as u8;
-        value /= 10;
-        if value == 0 {
-            break;
-        }
-    }
-    to.extend_from_slice(&digits[at..]);
+pub fn push_number(to: &mut Vec<u8>, value: u64) {
+    to.extend_from_slice(value.to_string().as_bytes());
 }
 
 /// Numbers with commas between them.
@@ -86,12 +48,7 @@ impl Answer {
             Answer::Slot(i) => push_named(to, "Slot", &[*i]),
             Answer::Submit(i) => push_named(to, "Submit", &[*i]),
             Answer::Completion(status, rest) => {
-                to.extend_from_slice(b"Completion:");
-                if *status < 0 {
-                    to.push(b'-');
-                }
-                push_number(to, status.unsigned_abs());
-                to.push(b',');
+                to.extend_from_slice(format!("Completion:{status},").as_bytes());
                 push_numbers(to, rest);
             }
             Answer::Foreign => push_named(to, "Foreign", &[]),
@@ -113,25 +70,15 @@ impl Hand {
     }
 }
 
-impl Line {
-    pub fn push(&self, to: &mut Vec<u8>) {
-        push_number(to, self.number);
-        to.push(b' ');
-        self.answer.push(to);
-        to.push(b' ');
+impl Shown {
+    fn push(&self, to: &mut Vec<u8>) {
         self.hand.push(to);
         to.push(b' ');
         push_number(to, self.out);
         to.push(b' ');
-        match self.flags {
-            Some(flags) => to.extend(flags.map(|f| b'0' + u8::from(f))),
-            None => to.push(b'?'),
-        }
+        to.extend(self.flags.unwrap_or_default().map(|f| b'0' + u8::from(f)));
         to.push(b' ');
-        match self.totals {
-            Some(totals) => push_numbers(to, &totals),
-            None => to.push(b'?'),
-        }
+        push_numbers(to, &self.totals.unwrap_or_default());
         to.push(b' ');
         to.extend(self.states.iter().map(|s| b'0' + s));
         to.push(b' ');
@@ -140,42 +87,27 @@ impl Line {
         }
         push_numbers(to, &self.queue);
         to.push(b' ');
-        push_number(to, self.checksum);
+    }
+}
+
+impl Line<'_> {
+    pub fn push(&self, to: &mut Vec<u8>) {
+        push_number(to, self.number);
+        to.push(b' ');
+        self.answer.push(to);
+        to.push(b' ');
+        if let Some(shown) = &self.shown {
+            shown.push(to);
+        }
+        push_number(to, checksum(self.image));
+        to.push(b' ');
+        push_number(to, checksum(self.block));
         to.push(b'\n');
     }
 }
 
-const FACTOR: u32 = 16_777_619;
-const LANES: usize = 16;
-
-/// From 0: for each byte, the sum so far times the factor, and the byte, modulo 2^32.
-pub fn checksum(block: &[u8]) -> u64 {
-    // The same, sixteen bytes at a time.
-    let powers: [u32; LANES] = std::array::from_fn(|k| FACTOR.wrapping_pow((LANES - 1 - k) as u32));
-    let all = FACTOR.wrapping_pow(LANES as u32);
-    let mut sum = 0u32;
-    let mut groups = block.chunks_exact(LANES);
-    for group in &mut groups {
-        let mut part = 0u32;
-        for k in 0..LANES {
-            part = part.wrapping_add(powers[k].wrapping_mul(u32::from(group[k])));
-        }
-        sum = sum.wrapping_mul(all).wrapping_add(part);
-    }
-    for &byte in groups.remainder() {
-        sum = sum.wrapping_mul(FACTOR).wrapping_add(u32::from(byte));
-    }
-    u64::from(sum)
-}
-
-#[cfg(test)]
-mod tests {
-    #[test]
-    fn checksum_is_the_plain_fold() {
-        let block: Vec<u8> = (0..1000u32).map(|k| (k * k / 7) as u8).collect();
-        for end in [0, 1, 15, 16, 17, 1000] {
-            let plain = block[..end].iter().fold(0u64, |s, &b| (s * 16_777_619 + u64::from(b)) % (1 << 32));
-            assert_eq!(super::checksum(&block[..end]), plain);
-        }
-    }
+/// From 0: for each byte, the sum so far times 16777619, and the byte, modulo 2^32.
+pub fn checksum(bytes: &[u8]) -> u64 {
+    let sum = |sum: u32, &byte: &u8| sum.wrapping_mul(16_777_619).wrapping_add(u32::from(byte));
+    u64::from(bytes.iter().fold(0, sum))
 }

@@ -2,7 +2,7 @@
 
 use std::collections::VecDeque;
 
-use form::{Hand, Line, Opening};
+use form::{Hand, Opening, Shown};
 
 use super::block::{layout, Block, Layout};
 use super::wrong::Wrong;
@@ -47,25 +47,31 @@ pub fn masked(address: u64, tagged: u64) -> u64 {
     }
 }
 
+/// The layout of values that opening takes, with a block of that length if one is given; else the refusal's number.
+pub fn admitted(o: &Opening, block_len: Option<u64>) -> Result<Layout, u64> {
+    let laid = layout(o.n, o.p, o.b);
+    if let Err(number @ 1..=3) = laid {
+        return Err(number);
+    }
+    if o.n > 256 || o.b > 49_152 {
+        return Err(5);
+    }
+    let layout = laid?;
+    if block_len.is_some_and(|length| length != layout.total) {
+        return Err(6);
+    }
+    let room: u128 = if o.tagged == 1 { 1 << 56 } else { 1 << 64 };
+    let end = u128::from(masked(o.base, o.tagged)) + u128::from(layout.total);
+    if o.base % 64 != 0 || end > room {
+        return Err(7);
+    }
+    Ok(layout)
+}
+
 impl Ledger {
     /// Refused in order, block untouched: 1, 2, 3; 5; 6; 7.
     pub fn open(o: &Opening, bytes: &mut [u8], wrong: Wrong) -> Result<Ledger, u64> {
-        let laid = layout(o.n, o.p, o.b);
-        if let Err(number @ 1..=3) = laid {
-            return Err(number);
-        }
-        if o.n > 256 || o.b > 49_152 {
-            return Err(5);
-        }
-        let layout = laid?;
-        if bytes.len() as u64 != layout.total {
-            return Err(6);
-        }
-        let room: u128 = if o.tagged == 1 { 1 << 56 } else { 1 << 64 };
-        let end = u128::from(masked(o.base, o.tagged)) + u128::from(layout.total);
-        if o.base % 64 != 0 || end > room {
-            return Err(7);
-        }
+        let layout = admitted(o, Some(bytes.len() as u64))?;
         Block { bytes, layout, p: o.p }.open(o);
         Ok(Ledger {
             opening: *o,
@@ -114,17 +120,14 @@ impl Ledger {
         }
     }
 
-    pub fn line(&self, number: u64, answer: form::Answer, checksum: u64) -> Line {
-        Line {
-            number,
-            answer,
+    pub fn shown(&self) -> Shown {
+        Shown {
             hand: self.hand,
             out: self.out(),
             flags: Some([self.started, self.armed]),
             totals: Some(self.totals),
             states: (0..self.opening.n).map(|i| self.state(i)).collect(),
             queue: self.queue.iter().copied().collect(),
-            checksum,
         }
     }
 }

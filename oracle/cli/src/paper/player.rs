@@ -1,69 +1,96 @@
-//! Reads runs and questions, prints a line for each call and question.
+//! The ledger with a block and an image of its own, as one side of a comparison.
 
-use std::io::{Read, Write};
+use form::{kind, Answer, Call, Figures, Opening, Question, Shown, Side, Told, FILLED, IMAGE_ROOM};
 
-use form::{checksum, Answer, Bad, Item, Opening, Reader};
-
-use super::functions;
 use super::ledger::Ledger;
 use super::wrong::Wrong;
+use super::{functions, image};
 
-/// What every byte of a block is before the opening.
-const BEFORE: u8 = 165;
+pub struct Paper {
+    wrong: Wrong,
+    block: Vec<u8>,
+    image: Vec<u8>,
+    /// What the bytes of the image that are lent show.
+    ledger: Option<Ledger>,
+}
 
-/// Plays until the input ends. Whether it was all in the form.
-pub fn play(from: impl Read, mut to: impl Write, wrong: Wrong) -> std::io::Result<bool> {
-    let mut reader = Reader::new(from);
-    let mut lines = Vec::new();
-    loop {
-        lines.clear();
-        let more = one_item(&mut reader, wrong, &mut lines);
-        if more.is_err() {
-            lines.extend_from_slice(b"Bad input\n");
+fn not_an_image() -> Answer {
+    Answer::Refused(31, None)
+}
+
+impl Paper {
+    pub fn new(wrong: Wrong) -> Paper {
+        Paper { wrong, block: Vec::new(), image: Vec::new(), ledger: None }
+    }
+
+    /// 31 for a policy or tag that names none; opening's own; 31 for an image buffer too short.
+    pub fn opened(&mut self, o: &Opening) -> Answer {
+        self.block.clear();
+        self.block.resize(o.block_len as usize, FILLED);
+        self.image.clear();
+        self.image.resize(IMAGE_ROOM as usize, FILLED);
+        self.ledger = None;
+        if o.policy > 2 || o.tagged > 1 {
+            return not_an_image();
         }
-        to.write_all(&lines)?;
-        match more {
-            Ok(true) => {}
-            Ok(false) => {
-                to.flush()?;
-                return Ok(true);
-            }
-            Err(Bad) => {
-                to.flush()?;
-                return Ok(false);
+        let mut block = self.block.clone();
+        match Ledger::open(o, &mut block, self.wrong) {
+            Err(number) => Answer::Refused(number, None),
+            Ok(_) if o.image_len < form::image_size(o.n) => not_an_image(),
+            Ok(ledger) => {
+                self.block = block;
+                image::write(&ledger, &mut self.image);
+                self.ledger = Some(ledger);
+                Answer::Done
             }
         }
     }
-}
 
-fn one_item(reader: &mut Reader<impl Read>, wrong: Wrong, lines: &mut Vec<u8>) -> Result<bool, Bad> {
-    match reader.item()? {
-        None => return Ok(false),
-        Some(Item::Question(q)) => functions::answer(&q, wrong, lines).ok_or(Bad)?,
-        Some(Item::Run(opening)) => one_run(reader, &opening, wrong, lines)?,
-    }
-    Ok(true)
-}
-
-fn one_run(reader: &mut Reader<impl Read>, o: &Opening, wrong: Wrong, lines: &mut Vec<u8>) -> Result<(), Bad> {
-    let mut block = vec![BEFORE; o.block_len as usize];
-    let mut ledger = match Ledger::open(o, &mut block, wrong) {
-        Ok(ledger) => ledger,
-        Err(number) => {
-            lines.extend_from_slice(format!("0 Refused:{number} {}\n", checksum(&block)).as_bytes());
-            // A refused opening leaves no record to call on.
-            return if reader.call(o.block_len)?.is_none() { Ok(()) } else { Err(Bad) };
+    /// Puts the bytes into the image's buffer, of which so many are lent from here on.
+    pub fn rewrite(&mut self, writes: &[(u64, u32)], lent: u64) {
+        for &(offset, value) in writes {
+            self.image[offset as usize..][..4].copy_from_slice(&value.to_le_bytes());
         }
-    };
-    ledger.line(0, Answer::Done, checksum(&block)).push(lines);
-    let mut number = 1;
-    while let Some(call) = reader.call(o.block_len)? {
+        self.ledger = image::read(&self.image[..lent as usize], self.wrong);
+    }
+
+    pub fn called(&mut self, call: &Call) -> Answer {
         for &(offset, value) in &call.writes {
-            block[offset as usize..][..4].copy_from_slice(&value.to_le_bytes());
+            self.block[offset as usize..][..4].copy_from_slice(&value.to_le_bytes());
         }
-        let answer = ledger.call(&call, &mut block[..call.lent as usize]);
-        ledger.line(number, answer, checksum(&block)).push(lines);
-        number += 1;
+        let Some(ledger) = &mut self.ledger else {
+            return not_an_image();
+        };
+        let answer = ledger.call(call, &mut self.block[..call.lent as usize]);
+        image::write(ledger, &mut self.image);
+        answer
     }
-    Ok(())
+
+    /// None where there is no record.
+    pub fn shown(&self) -> Option<Shown> {
+        self.ledger.as_ref().map(Ledger::shown)
+    }
+}
+
+impl Side for Paper {
+    fn open(&mut self, opening: &Opening) -> Told {
+        self.opened(opening).told(0)
+    }
+
+    fn call(&mut self, call: &Call) -> Told {
+        debug_assert!(call.kind < kind::END);
+        self.called(call).told(call.places())
+    }
+
+    fn image(&self) -> &[u8] {
+        &self.image
+    }
+
+    fn block(&self) -> &[u8] {
+        &self.block
+    }
+
+    fn ask(&mut self, question: &Question) -> Option<Figures> {
+        Some(functions::ask(question, self.wrong))
+    }
 }

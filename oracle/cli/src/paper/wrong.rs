@@ -32,11 +32,21 @@ pub enum Wrong {
     ReservedTimesThree,
     DepthRoundedDown,
     EndpointBeforeBytes,
+    ImageQueueFromTheBack,
+    ImageArmedAsStarted,
+    ImageDiscardingAsInFlight,
+    ImageCountersInAnotherOrder,
+    ImageLeftForgotten,
+    ImageUnusedPlacesKept,
+    ImageQueueLengthOfTheRing,
+    ImageTagLost,
+    ImageFlagsKept,
+    ImageWrittenPastItsEnd,
 }
 
 impl Wrong {
     /// Each mistake by its name.
-    pub const ALL: [(&'static str, Wrong); 29] = [
+    pub const ALL: [(&'static str, Wrong); 39] = [
         ("refused-commit-to-the-front", Wrong::RefusedCommitToTheFront),
         ("refused-commit-kept-in-hand", Wrong::RefusedCommitKeptInHand),
         ("start-clears-armed", Wrong::StartClearsArmed),
@@ -66,6 +76,16 @@ impl Wrong {
         ("reserved-times-three", Wrong::ReservedTimesThree),
         ("depth-rounded-down", Wrong::DepthRoundedDown),
         ("endpoint-before-bytes", Wrong::EndpointBeforeBytes),
+        ("image-queue-from-the-back", Wrong::ImageQueueFromTheBack),
+        ("image-armed-as-started", Wrong::ImageArmedAsStarted),
+        ("image-discarding-as-in-flight", Wrong::ImageDiscardingAsInFlight),
+        ("image-counters-in-another-order", Wrong::ImageCountersInAnotherOrder),
+        ("image-left-forgotten", Wrong::ImageLeftForgotten),
+        ("image-unused-places-kept", Wrong::ImageUnusedPlacesKept),
+        ("image-queue-length-of-the-ring", Wrong::ImageQueueLengthOfTheRing),
+        ("image-tag-lost", Wrong::ImageTagLost),
+        ("image-flags-kept", Wrong::ImageFlagsKept),
+        ("image-written-past-its-end", Wrong::ImageWrittenPastItsEnd),
     ];
 
     pub fn named(name: &str) -> Option<Wrong> {
