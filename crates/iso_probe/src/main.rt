@@ -1,5 +1,5 @@
-// Derives and prints the schedule of the shop's ring: Full speed, bInterval 1, 192 bytes a packet,
-// 8 packets a URB, 8 URBs.
+// Derives and prints the schedule of the shop's ring (Full speed, bInterval 1, 192 bytes a packet, 8 packets a URB,
+// 8 URBs), and how many URBs a depth of 0 gives.
 use error::Error;
 use libc::STDOUT_FILENO;
 use schedule::Depth;
@@ -26,7 +26,7 @@ fn product(label: &[u8], value: Product, unit: &[u8]) {
     }
 }
 
-fn main() {
+fn shop() {
     match Schedule::derive(Speed::Full, 1, 192, Depth::Urbs(8), Packets::Given(8)) {
         Derived::Refused(e) => refusal(e),
         Derived::Schedule(s) => {
@@ -36,4 +36,18 @@ fn main() {
             product(b"memory: ", s.memory_bytes(), b" bytes\n");
         }
     }
+}
+
+fn urbs(label: &[u8], depth: Depth) {
+    match Schedule::derive(Speed::High, 4, 192, depth, Packets::Given(8)) {
+        Derived::Refused(e) => refusal(e),
+        Derived::Schedule(s) => line(label, s.urbs as u64, b" URBs\n"),
+    }
+}
+
+fn main() {
+    shop();
+    urbs(b"depth of 0 URBs: ", Depth::Urbs(0));
+    urbs(b"depth of 0 us: ", Depth::Micros(0));
+    urbs(b"depth of 0 ms: ", Depth::Millis(0));
 }
