@@ -22,9 +22,9 @@ use Rattle.image.specs.Reading.{recordIn}
 use Rattle.image.proofs.ReadBack.{Fits}
 use Rattle.image.proofs.RoundTrip.{Reads, round-trip, image-sound}
 use Rattle.image.proofs.Sizes.{ledger-image-long}
-use Rattle.usbfs_iso.specs.Told.{FromC, told}
-use Rattle.usbfs_iso.specs.FromC.{fromC}
-use Rattle.usbfs_iso.specs.Calls.{onList, ruleFromC, madeFromC}
+use Rattle.from_c.specs.Told.{FromC, told}
+use Rattle.from_c.specs.FromC.{fromC}
+use Rattle.from_c.specs.Calls.{onList, ruleFromC, madeFromC}
 use Rattle.c_history.specs.Calls.{CCall, inNumbers, callsOf, imageAfter, cLog, ledgerCLog}
 
 -- A rule from C gives the ledger and the answer of its call in numbers.

@@ -24,9 +24,9 @@ use Rattle.history.proofs.Holds.{holds-after}
 use Rattle.image.specs.Image.{ledgerImage}
 use Rattle.image.specs.Reading.{imageSize, recordIn}
 use Rattle.image.proofs.Sizes.{ledger-image-long}
-use Rattle.usbfs_iso.specs.Told.{FromC, told}
-use Rattle.usbfs_iso.specs.FromC.{notAnImage}
-use Rattle.usbfs_iso.specs.Open.{namesNone, openedFromC, openFromC}
+use Rattle.from_c.specs.Told.{FromC, told}
+use Rattle.from_c.specs.FromC.{notAnImage}
+use Rattle.from_c.specs.Open.{namesNone, openedFromC, openFromC}
 use Rattle.c_history.specs.Calls.{CCall, callsOf, imageAfter}
 use Rattle.c_history.specs.Demand3.{Demand3FromC}
 use Rattle.c_history.proofs.AfterC.{in-step-after, image-after, logs-from-c}

@@ -7,8 +7,8 @@ use Rattle.ledger.specs.Calls.{Call, turn, commit, commitFull, commitPackets, s
 use Rattle.history.specs.History.{ledgerAfter}
 use Rattle.image.specs.Words.{listIn}
 use Rattle.image.specs.Image.{ledgerImage}
-use Rattle.usbfs_iso.specs.Told.{FromC, told}
-use Rattle.usbfs_iso.specs.Calls.{ruleFromC, madeFromC}
+use Rattle.from_c.specs.Told.{FromC, told}
+use Rattle.from_c.specs.Calls.{ruleFromC, madeFromC}
 
 -- A call, its lists as bytes; what stands behind the image in its buffer; and the slice for the eight numbers.
 pub record CCall : Type 0 where

@@ -1,8 +1,8 @@
 // The ten calls. Each reads the record from its image, makes the call by value and stores the record's image again.
-use crate::answer::answered;
-use crate::answer::not_an_image;
-use crate::lists::commit_listed;
-use crate::lists::stop_listed;
+use from_c::answered;
+use from_c::commit_listed;
+use from_c::not_an_image;
+use from_c::stop_listed;
 use image::read_image;
 use stream::Reaping;
 use stream::Submission;
@@ -10,8 +10,8 @@ ghost use mathlib.Core.List.{[]};
 ghost use Rattle.ledger.specs.Calls.{Call};
 ghost use Rattle.stream.specs.declared.Reaping.{Reaping};
 ghost use Rattle.stream.specs.declared.Submission.{Submission};
-ghost use Rattle.usbfs_iso.specs.Told.{Returned};
-ghost use Rattle.usbfs_iso.specs.Calls.{madeFromC};
+ghost use Rattle.from_c.specs.Told.{Returned};
+ghost use Rattle.from_c.specs.Calls.{madeFromC};
 
 // The next slot to fill or to submit.
 #[no_mangle]

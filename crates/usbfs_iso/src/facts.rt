@@ -1,20 +1,13 @@
 // What a C host asks beside the calls: layout, image size, what a refusal's number means, schedules.
-use crate::answer::write_numbers;
-use image::size;
-use layout::Laid;
-use layout::RingLayout;
-use schedule::Depth;
-use schedule::Derived;
-use schedule::Endpoint;
-use schedule::Packets;
-use schedule::Schedule;
-use schedule::Speed;
+use from_c::derive_figures;
+use from_c::image_size;
+use from_c::layout_figures;
+use from_c::plan_figures;
 ghost use mathlib.Core.Path.{_≡_};
 ghost use lib.ListN.{length};
 ghost use Rattle.refusal_text.specs.CString.{codes, cString};
 ghost use Rattle.refusal_text.specs.Refusals.{nameOf, textOf};
-ghost use Rattle.usbfs_iso.specs.Figures.{Figured, layoutFigures, layoutFromC, sizeFromC};
-ghost use Rattle.usbfs_iso.specs.Figures.{scheduleFigures, depthFrom, deriveFromC, planFromC};
+ghost use Rattle.from_c.specs.Figures.{Figured, layoutFromC, sizeFromC, deriveFromC, planFromC};
 
 // The layout's six numbers.
 #[no_mangle]
@@ -27,25 +20,7 @@ pub extern "C" fn usbfs_iso_layout(
     ensures { λ r.
         ⌜ Figured (layoutFromC slots «packets_per_urb» «packet_bytes» (now (out .entry))) r (now (out .exit)) ⌝ }
 {
-    match RingLayout::new(
-        slots as usize,
-        packets_per_urb as usize,
-        packet_bytes as usize,
-    ) {
-        Laid::Refused(e) => e.number(),
-        Laid::Layout(l) => {
-            let numbers: [u64; 6] = [
-                l.slot_stride as u64,
-                l.data_base as u64,
-                l.data_stride as u64,
-                l.total_bytes as u64,
-                l.align as u64,
-                l.slot_capacity as u64,
-            ];
-            write_numbers(&numbers, out);
-            0
-        }
-    }
+    layout_figures(slots, packets_per_urb, packet_bytes, out)
 }
 
 // The bytes of an image of so many slots, or 0 where no ring has so many.
@@ -53,13 +28,7 @@ pub extern "C" fn usbfs_iso_layout(
 pub extern "C" fn usbfs_iso_image_size(slots: u64) -> u64
     ensures { λ r. ⌜ r ≡ sizeFromC slots ⌝ }
 {
-    if slots < 2 {
-        return 0;
-    }
-    if 256 < slots {
-        return 0;
-    }
-    size(slots as usize) as u64
+    image_size(slots)
 }
 
 // The short name of a refusal, as a C string.
@@ -80,35 +49,6 @@ pub extern "C" fn usbfs_iso_refusal_text(number: u32, text: &mut [u8]) -> u64
     refusal_text::put_text(number, text)
 }
 
-// A count of URBs or, where that is 0, microseconds.
-fn depth_from(urbs: u64, depth_us: u32) -> Depth
-    ensures { λ r. ⌜ r ≡ depthFrom urbs «depth_us» ⌝ }
-{
-    if urbs == 0 {
-        return Depth::Micros(depth_us);
-    }
-    Depth::Urbs(urbs as usize)
-}
-
-// The schedule's four numbers.
-fn schedule_figures(derived: Derived, out: &mut [u8]) -> u32
-    ensures { λ r. ⌜ Figured (scheduleFigures derived (now (out .entry))) r (now (out .exit)) ⌝ }
-{
-    match derived {
-        Derived::Refused(e) => e.number(),
-        Derived::Schedule(s) => {
-            let numbers: [u64; 4] = [
-                s.packet_interval_us as u64,
-                s.packets_per_urb as u64,
-                s.urbs as u64,
-                s.packet_bytes as u64,
-            ];
-            write_numbers(&numbers, out);
-            0
-        }
-    }
-}
-
 // A schedule from the bus facts and a depth.
 #[no_mangle]
 pub extern "C" fn usbfs_iso_derive(
@@ -124,11 +64,15 @@ pub extern "C" fn usbfs_iso_derive(
         ⌜ Figured (deriveFromC speed «b_interval» «packet_bytes» urbs «depth_us» «packets_per_urb» (now (out .entry)))
         r (now (out .exit)) ⌝ }
 {
-    let depth = depth_from(urbs, depth_us);
-    let packets = Packets::Given(packets_per_urb as usize);
-    let bus = Speed::from_raw(speed);
-    let derived = Schedule::derive(bus, b_interval, packet_bytes as usize, depth, packets);
-    schedule_figures(derived, out)
+    derive_figures(
+        speed,
+        b_interval,
+        packet_bytes,
+        urbs,
+        depth_us,
+        packets_per_urb,
+        out,
+    )
 }
 
 // A schedule from an endpoint's descriptor and a depth.
@@ -147,15 +91,14 @@ pub extern "C" fn usbfs_iso_plan(
         ⌜ Figured (planFromC speed attributes «max_packet_size» «b_interval» urbs «depth_us» «packets_per_urb»
         (now (out .entry))) r (now (out .exit)) ⌝ }
 {
-    let depth = depth_from(urbs, depth_us);
-    let packets = Packets::Given(packets_per_urb as usize);
-    let bus = Speed::from_raw(speed);
-    let endpoint = Endpoint {
-        address: 0,
+    plan_figures(
+        speed,
         attributes,
         max_packet_size,
-        interval: b_interval,
-    };
-    let planned = schedule::plan(bus, endpoint, depth, packets);
-    schedule_figures(planned, out)
+        b_interval,
+        urbs,
+        depth_us,
+        packets_per_urb,
+        out,
+    )
 }

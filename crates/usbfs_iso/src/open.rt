@@ -1,35 +1,11 @@
 // Opening from C.
-use crate::answer::answered;
-use crate::answer::not_an_image;
-use crate::answer::tell;
+use from_c::not_an_image;
+use from_c::open_in;
 use image::policy_from;
-use image::size;
-use layout::Laid;
 use layout::Setup;
-use stream::Answer;
 ghost use mathlib.Core.List.{[], _∷_};
-ghost use lib.ListN.{length};
-ghost use Rattle.opening.specs.Refusals.{opens};
-ghost use Rattle.usbfs_iso.specs.Told.{Returned};
-ghost use Rattle.usbfs_iso.specs.Open.{openedFromC, openFromC};
-
-// Opens a ring with these values: their refusals, then 31 for a buffer too short for the image.
-fn open_in(setup: Setup, block: &mut [u8], image: &mut [u8], out: &mut [u8]) -> u32
-    ensures { λ r.
-        ⌜ Returned (openedFromC (opens setup (length (now (block .entry)))) setup (now (block .entry))
-        (now (image .entry)) (now (out .entry))) r (now (image .exit)) (now (block .exit)) (now (out .exit)) ⌝ }
-{
-    match opening::opens(setup, block.len()) {
-        Laid::Refused(e) => tell(Answer::Refused(e), out),
-        Laid::Layout(_) => {
-            if image.len() < size(setup.slots) {
-                return not_an_image(out);
-            }
-            let reply = opening::open(setup, block);
-            answered(reply, image, out)
-        }
-    }
-}
+ghost use Rattle.from_c.specs.Told.{Returned};
+ghost use Rattle.from_c.specs.Open.{openFromC};
 
 // Opens a ring in the block and writes its image.
 #[no_mangle]

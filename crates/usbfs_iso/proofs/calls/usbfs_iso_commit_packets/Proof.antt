@@ -1,8 +1,8 @@
--- `usbfs_iso::usbfs_iso_commit_packets` meets its contract: what every call from C shows (proofs/Answering), for this call. Assumes nothing.
+-- `usbfs_iso::usbfs_iso_commit_packets` meets its contract: what every call from C shows (Answering of from_c), for this call. Assumes nothing.
 use borrow.Author.Needs.{needs}
 use Rattle.ledger.specs.Calls.{Call, lentTo}
-use Rattle.usbfs_iso.specs.Calls.{ruleFromC}
-use Rattle.usbfs_iso.proofs.Answering.{refused, writable, finished}
+use Rattle.from_c.specs.Calls.{ruleFromC}
+use Rattle.from_c.proofs.Answering.{refused, writable, finished}
 use Rattle.usbfs_iso.proofs.calls.usbfs_iso_commit_packets.Statement.{statement}
 use Rattle.usbfs_iso.proofs.calls.usbfs_iso_commit_packets.Tie as tie
 

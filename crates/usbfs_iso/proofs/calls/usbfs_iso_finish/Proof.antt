@@ -1,9 +1,9 @@
--- `usbfs_iso::usbfs_iso_finish` meets its contract: what every call from C shows (proofs/Answering), for this call. Assumes nothing.
+-- `usbfs_iso::usbfs_iso_finish` meets its contract: what every call from C shows (Answering of from_c), for this call. Assumes nothing.
 use mathlib.Core.Path.{refl}
 use borrow.Author.Needs.{needs}
 use Rattle.ledger.specs.Calls.{Call, lentTo}
-use Rattle.usbfs_iso.specs.Calls.{ruleFromC}
-use Rattle.usbfs_iso.proofs.Answering.{told-called, refused, writable, finished}
+use Rattle.from_c.specs.Calls.{ruleFromC}
+use Rattle.from_c.proofs.Answering.{told-called, refused, writable, finished}
 use Rattle.usbfs_iso.proofs.calls.usbfs_iso_finish.Statement.{statement}
 use Rattle.usbfs_iso.proofs.calls.usbfs_iso_finish.Tie as tie
 

@@ -1,10 +1,10 @@
--- `usbfs_iso::usbfs_iso_reaped_errno` meets its contract: what every call from C shows (proofs/Answering), for this call. Assumes nothing.
+-- `usbfs_iso::usbfs_iso_reaped_errno` meets its contract: what every call from C shows (Answering of from_c), for this call. Assumes nothing.
 use mathlib.Core.Path.{refl}
 use borrow.Author.Needs.{needs}
 use Rattle.stream.specs.declared.Reaping.{Reaping}
 use Rattle.ledger.specs.Calls.{Call, lentTo}
-use Rattle.usbfs_iso.specs.Calls.{ruleFromC}
-use Rattle.usbfs_iso.proofs.Answering.{told-called, refused, writable, finished}
+use Rattle.from_c.specs.Calls.{ruleFromC}
+use Rattle.from_c.proofs.Answering.{told-called, refused, writable, finished}
 use Rattle.usbfs_iso.proofs.calls.usbfs_iso_reaped_errno.Statement.{statement}
 use Rattle.usbfs_iso.proofs.calls.usbfs_iso_reaped_errno.Tie as tie
 

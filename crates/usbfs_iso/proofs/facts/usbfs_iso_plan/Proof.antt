@@ -1,36 +1,25 @@
--- `usbfs_iso::usbfs_iso_plan` meets its contract: the plan of the speed, endpoint and depth that its numbers name. Assumes nothing.
-use Prim.Native.Nat.{ℕ}
-use mathlib.Core.Path.{_≡_, ap, subst, _∙_}
-use mathlib.Core.List.{List}
+-- `usbfs_iso::usbfs_iso_plan` meets its contract, which is that of `from_c::plan_figures`: the speed's signed number is handed on as it is. Assumes nothing.
+use mathlib.Core.Path.{subst}
+use lib.IntN.{ℤ}
 use mir.Syntax.{w32}
 use mir.ValLaws.{toZ-ofZ}
-use Rattle.schedule.specs.declared.Derived.{Derived}
-use Rattle.schedule.specs.declared.Packets.{Packets}
-use Rattle.schedule.specs.Speed.{fromRaw}
-use Rattle.schedule.specs.Derive.{planned}
-use Rattle.usbfs_iso.specs.Figures.{Figured, scheduleFigures, planFromC}
+use Rattle.from_c.specs.Figures.{Figured, planFromC}
 use borrow.Author.Needs.{needs}
 use Rattle.usbfs_iso.proofs.facts.usbfs_iso_plan.Statement.{statement}
 use Rattle.usbfs_iso.proofs.facts.usbfs_iso_plan.Tie as tie
 
 returns : tie.Need-returns
-unfolding planFromC
 returns c =
-    let told = c .before .before in
-    let d = told .before .before in
-    let start = d .before .before .before .before in
-    let speed = d .before .from-raw .ensures ∙ ap fromRaw (toZ-ofZ w32 (start .args .speed) (start .fits .speed)) in
-    let depth = d .before .before .depth-from .ensures in
-    let is = d .plan .ensures ∙ (λ i. planned (speed i) (record { address = 0; attributes = start .args .attributes; «max_packet_size» = start .args .max-packet-size; interval = start .args .b-interval }) (depth i) (Packets.Given (start .args .packets-per-urb))) in
-    subst (λ (x : Derived). Figured (scheduleFigures x (start .args .out .now)) (told .schedule-figures .result) (told .schedule-figures .last .1 .0)) is (told .schedule-figures .ensures)
+    let told = c .before .before .plan-figures in
+    let start = c .before .before .before .before .before in
+    let a = start .args in
+    subst (λ (speed : ℤ). Figured (planFromC speed (a .attributes) (a .max-packet-size) (a .b-interval) (a .urbs) (a .depth-us) (a .packets-per-urb) (a .out .now)) (told .result) (told .last .1 .1 .1 .1 .1 .1 .1 .0))
+    (toZ-ofZ w32 (a .speed) (start .fits .speed)) (told .ensures)
 
 pub usbfs-iso-plan-spec : {M : Type 1} → statement M
 usbfs-iso-plan-spec =
     tie.close
     (tie.spec
-    (λ c κs. search needs)
-    (λ c κs. search needs)
-    (λ c κs. search needs)
     (λ c κs. search needs)
     (λ c. search needs)
     returns)

@@ -12,9 +12,9 @@ use Rattle.layout.specs.declared.Setup.{Setup}
 use Rattle.layout.specs.Numbers.{setupFrom}
 use Rattle.opening.specs.Refusals.{opens}
 use Rattle.stream.specs.declared.Answer.{Answer}
-use Rattle.usbfs_iso.specs.Told.{told, Returned}
-use Rattle.usbfs_iso.specs.FromC.{notAnImage}
-use Rattle.usbfs_iso.specs.Open.{namesNone, openedFromC, openFromC}
+use Rattle.from_c.specs.Told.{told, Returned}
+use Rattle.from_c.specs.FromC.{notAnImage}
+use Rattle.from_c.specs.Open.{namesNone, openedFromC, openFromC}
 use borrow.Author.Needs.{needs}
 use Rattle.usbfs_iso.proofs.open.usbfs_iso_open.Statement.{statement}
 use Rattle.usbfs_iso.proofs.open.usbfs_iso_open.Tie as tie
