@@ -2,4 +2,3 @@ pub mod Told
 pub mod FromC
 pub mod Calls
 pub mod Open
-pub mod Figures

@@ -1,13 +1,13 @@
 // What a C host asks beside the calls: layout, image size, what a refusal's number means, schedules.
-use from_c::derive_figures;
-use from_c::image_size;
-use from_c::layout_figures;
-use from_c::plan_figures;
+use figures::derive_figures;
+use figures::image_size;
+use figures::layout_figures;
+use figures::plan_figures;
 ghost use mathlib.Core.Path.{_≡_};
 ghost use lib.ListN.{length};
 ghost use Rattle.refusal_text.specs.CString.{codes, cString};
 ghost use Rattle.refusal_text.specs.Refusals.{nameOf, textOf};
-ghost use Rattle.from_c.specs.Figures.{Figured, layoutFromC, sizeFromC, deriveFromC, planFromC};
+ghost use Rattle.figures.specs.Figures.{Figured, layoutFromC, sizeFromC, deriveFromC, planFromC};
 
 // The layout's six numbers.
 #[no_mangle]

@@ -1,9 +1,9 @@
--- `usbfs_iso::usbfs_iso_derive` meets its contract, which is that of `from_c::derive_figures`: the speed's signed number is handed on as it is. Assumes nothing.
+-- `usbfs_iso::usbfs_iso_derive` meets its contract, which is that of `figures::derive_figures`: the speed's signed number is handed on as it is. Assumes nothing.
 use mathlib.Core.Path.{subst}
 use lib.IntN.{ℤ}
 use mir.Syntax.{w32}
 use mir.ValLaws.{toZ-ofZ}
-use Rattle.from_c.specs.Figures.{Figured, deriveFromC}
+use Rattle.figures.specs.Figures.{Figured, deriveFromC}
 use borrow.Author.Needs.{needs}
 use Rattle.usbfs_iso.proofs.facts.usbfs_iso_derive.Statement.{statement}
 use Rattle.usbfs_iso.proofs.facts.usbfs_iso_derive.Tie as tie

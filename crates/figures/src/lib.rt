@@ -1,5 +1,5 @@
 // What a C host asks beside the calls: layout, image size, schedules.
-use crate::answer::write_numbers;
+use from_c::write_numbers;
 use image::size;
 use layout::Laid;
 use layout::RingLayout;
@@ -10,8 +10,8 @@ use schedule::Packets;
 use schedule::Schedule;
 use schedule::Speed;
 ghost use mathlib.Core.Path.{_≡_};
-ghost use Rattle.from_c.specs.Figures.{Figured, layoutFromC, sizeFromC};
-ghost use Rattle.from_c.specs.Figures.{scheduleFigures, depthFrom, deriveFromC, planFromC};
+ghost use Rattle.figures.specs.Figures.{Figured, layoutFromC, sizeFromC};
+ghost use Rattle.figures.specs.Figures.{scheduleFigures, depthFrom, deriveFromC, planFromC};
 
 // The layout's six numbers.
 pub fn layout_figures(slots: u64, packets_per_urb: u64, packet_bytes: u64, out: &mut [u8]) -> u32

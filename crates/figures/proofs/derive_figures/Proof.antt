@@ -1,4 +1,4 @@
--- `from_c::derive_figures` meets its contract: the schedule of the speed and depth that its numbers name. Assumes nothing.
+-- `figures::derive_figures` meets its contract: the schedule of the speed and depth that its numbers name. Assumes nothing.
 use Prim.Native.Nat.{ℕ}
 use mathlib.Core.Path.{_≡_, ap, subst, _∙_}
 use mathlib.Core.List.{List}
@@ -8,10 +8,10 @@ use Rattle.schedule.specs.declared.Derived.{Derived}
 use Rattle.schedule.specs.declared.Packets.{Packets}
 use Rattle.schedule.specs.Speed.{fromRaw}
 use Rattle.schedule.specs.Derive.{derived}
-use Rattle.from_c.specs.Figures.{Figured, scheduleFigures, deriveFromC}
+use Rattle.figures.specs.Figures.{Figured, scheduleFigures, deriveFromC}
 use borrow.Author.Needs.{needs}
-use Rattle.from_c.proofs.figures.derive_figures.Statement.{statement}
-use Rattle.from_c.proofs.figures.derive_figures.Tie as tie
+use Rattle.figures.proofs.derive_figures.Statement.{statement}
+use Rattle.figures.proofs.derive_figures.Tie as tie
 
 returns : tie.Need-returns
 unfolding deriveFromC

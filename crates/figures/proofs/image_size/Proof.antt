@@ -1,10 +1,10 @@
--- `from_c::image_size` meets its contract: each return by the tests that led there. Assumes nothing.
+-- `figures::image_size` meets its contract: each return by the tests that led there. Assumes nothing.
 use Prim.Native.Nat.{ℕ}
 use borrow.Author.Tests.{lt-ltb, le-ltb}
-use Rattle.from_c.specs.Figures.{sizeFromC}
+use Rattle.figures.specs.Figures.{sizeFromC}
 use borrow.Author.Needs.{needs}
-use Rattle.from_c.proofs.figures.image_size.Statement.{statement}
-use Rattle.from_c.proofs.figures.image_size.Tie as tie
+use Rattle.figures.proofs.image_size.Statement.{statement}
+use Rattle.figures.proofs.image_size.Tie as tie
 
 returns : tie.Need-returns
 unfolding sizeFromC

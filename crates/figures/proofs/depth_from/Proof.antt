@@ -1,8 +1,8 @@
--- `from_c::depth_from` meets its contract: each return by the test that led there. Assumes nothing.
+-- `figures::depth_from` meets its contract: each return by the test that led there. Assumes nothing.
 use borrow.Author.Tests.{eq-eqb, ne-eqb}
-use Rattle.from_c.specs.Figures.{depthFrom}
-use Rattle.from_c.proofs.figures.depth_from.Statement.{statement}
-use Rattle.from_c.proofs.figures.depth_from.Tie as tie
+use Rattle.figures.specs.Figures.{depthFrom}
+use Rattle.figures.proofs.depth_from.Statement.{statement}
+use Rattle.figures.proofs.depth_from.Tie as tie
 
 returns : tie.Need-returns
 unfolding depthFrom

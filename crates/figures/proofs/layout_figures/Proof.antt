@@ -1,4 +1,4 @@
--- `from_c::layout_figures` meets its contract, by what RingLayout::new gave. Assumes nothing.
+-- `figures::layout_figures` meets its contract, by what RingLayout::new gave. Assumes nothing.
 use Prim.Native.Nat.{ℕ}
 use mathlib.Core.Path.{_≡_, refl, sym, _∙_}
 use mathlib.Core.List.{List, [], _∷_}
@@ -8,10 +8,10 @@ use Rattle.layout.specs.declared.Laid.{Laid}
 use Rattle.layout.specs.declared.RingLayout.{RingLayout}
 use Rattle.layout.specs.Layout.{laidOut}
 use Rattle.image.specs.Words.{written}
-use Rattle.from_c.specs.Figures.{Figured, layoutFigures, layoutFromC}
+use Rattle.figures.specs.Figures.{Figured, layoutFigures, layoutFromC}
 use borrow.Author.Needs.{needs}
-use Rattle.from_c.proofs.figures.layout_figures.Statement.{statement}
-use Rattle.from_c.proofs.figures.layout_figures.Tie as tie
+use Rattle.figures.proofs.layout_figures.Statement.{statement}
+use Rattle.figures.proofs.layout_figures.Tie as tie
 
 refused : (n p b : ℕ) (d : Laid) (e : Error) (out : List ℕ) (r : ℕ) → d ≡ laidOut n p b → d ≡ Laid.Refused e → r ≡ numberOf e
     → Figured (layoutFromC n p b out) r out

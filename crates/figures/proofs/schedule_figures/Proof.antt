@@ -1,4 +1,4 @@
--- `from_c::schedule_figures` meets its contract, by what was derived. Assumes nothing.
+-- `figures::schedule_figures` meets its contract, by what was derived. Assumes nothing.
 use Prim.Native.Nat.{ℕ}
 use mathlib.Core.Path.{_≡_, refl}
 use mathlib.Core.List.{List, [], _∷_}
@@ -7,10 +7,10 @@ use Rattle.error.specs.Number.{numberOf}
 use Rattle.schedule.specs.declared.Derived.{Derived}
 use Rattle.schedule.specs.declared.Schedule.{Schedule}
 use Rattle.image.specs.Words.{written}
-use Rattle.from_c.specs.Figures.{Figured, scheduleFigures}
+use Rattle.figures.specs.Figures.{Figured, scheduleFigures}
 use borrow.Author.Needs.{needs}
-use Rattle.from_c.proofs.figures.schedule_figures.Statement.{statement}
-use Rattle.from_c.proofs.figures.schedule_figures.Tie as tie
+use Rattle.figures.proofs.schedule_figures.Statement.{statement}
+use Rattle.figures.proofs.schedule_figures.Tie as tie
 
 refused : (d : Derived) (e : Error) (out : List ℕ) (n : ℕ) → d ≡ Derived.Refused e → n ≡ numberOf e → Figured (scheduleFigures d out) n out
 unfolding scheduleFigures
