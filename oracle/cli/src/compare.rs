@@ -7,6 +7,8 @@ use std::rc::Rc;
 use form::{function, image_of, Call, Figures, Listener, Opening, Question, Shown, Side, Told};
 use form::{FILLED, FLAGS_AT, IMAGE_ROOM, STATES_AT};
 
+use crate::paper::{Paper, Wrong};
+
 /// How many mismatches are printed.
 const SHOWN: u64 = 5;
 
@@ -39,9 +41,10 @@ impl Counts {
     }
 }
 
-/// One side beside the Rust.
+/// One side beside the Rust, and beside the paper's own player where the Rust shows no flags and counters.
 struct Comparison {
     side: Box<dyn Side>,
+    paper: Paper,
     counts: Rc<RefCell<Counts>>,
     seed: u64,
     opening: Opening,
@@ -65,15 +68,13 @@ impl Comparison {
         [FLAGS_AT..STATES_AT, counters..counters + 64]
     }
 
-    /// The image buffer that shows this, with what the Rust does not show as the other side has it.
+    /// The image buffer that shows this, with what the Rust does not show as the paper's own player has it.
     fn expected_image(&self, shown: &Shown) -> Vec<u8> {
         let mut image = image_of(&self.opening, shown);
-        let [flags, counters] = self.hidden();
         if shown.flags.is_none() {
-            image[flags.clone()].copy_from_slice(&self.side.image()[flags]);
-        }
-        if shown.totals.is_none() {
-            image[counters.clone()].copy_from_slice(&self.side.image()[counters]);
+            for part in self.hidden() {
+                image[part.clone()].copy_from_slice(&self.paper.image()[part]);
+            }
         }
         image.resize(IMAGE_ROOM as usize, FILLED);
         image
@@ -109,6 +110,7 @@ impl Listener for Comparison {
     fn opened(&mut self, opening: &Opening, told: &Told, shown: &Shown, block: &[u8]) {
         self.opening = *opening;
         self.number = 0;
+        self.paper.open(opening);
         let other = self.side.open(opening);
         self.compare(told, &other, shown, block);
     }
@@ -117,6 +119,7 @@ impl Listener for Comparison {
         self.number += 1;
         self.counts.borrow_mut().calls += 1;
         self.counts.borrow_mut().full += u64::from(shown.flags.is_some());
+        self.paper.call(call);
         let other = self.side.call(call);
         self.compare(told, &other, shown, block);
     }
@@ -157,6 +160,7 @@ pub fn compare_runs(runs: Runs, mut side: impl FnMut() -> Box<dyn Side>) -> Coun
         let seed = runs.seed.wrapping_add(k);
         let comparison = Comparison {
             side: side(),
+            paper: Paper::new(Wrong::None),
             counts: counts.clone(),
             seed,
             opening: Opening::default(),
@@ -225,7 +229,7 @@ pub fn tell(counts: &Counts, out: &mut impl Write) -> io::Result<bool> {
     let both = runs + calls;
     let hidden = both - full;
     write!(out, "{runs} runs, {calls} calls, {mismatches} mismatches; ")?;
-    writeln!(out, "flags and counters not shown at {hidden} of {both} openings and calls")?;
+    writeln!(out, "flags and counters are the Rust's at {full} of {both} openings and calls, the paper's at {hidden}")?;
     if *calls == 0 {
         writeln!(out, "nothing was compared")?;
     }

@@ -106,13 +106,17 @@ impl Side for Spoilt {
     }
 }
 
-/// Which calls a run has: the first turn that gives a slot, the first stop that has a list, and the last call.
+/// Which calls a run has: the first turn that gives a slot, the first stop that has a list, the first call at which the Rust
+/// shows no flags and counters, and the last call.
 #[derive(Default)]
 struct Found {
     calls: u64,
+    hidden: Option<u64>,
     block_len: u64,
     turn: Option<u64>,
     stop: Option<(u64, u64)>,
+    /// Whether the last call was one at which the Rust shows all.
+    is_full: bool,
 }
 
 struct Finder(Rc<RefCell<Found>>);
@@ -122,10 +126,14 @@ impl Listener for Finder {
         self.0.borrow_mut().block_len = opening.block_len;
     }
 
-    fn called(&mut self, call: &Call, told: &Told, _shown: &Shown, _block: &[u8]) {
+    fn called(&mut self, call: &Call, told: &Told, shown: &Shown, _block: &[u8]) {
         let mut found = self.0.borrow_mut();
         found.calls += 1;
         let number = found.calls;
+        if !found.is_full {
+            found.hidden.get_or_insert(number - 1);
+        }
+        found.is_full = shown.flags.is_some();
         if call.kind == kind::TURN && told.numbers[0] == 3 {
             found.turn.get_or_insert(number);
         }
@@ -134,15 +142,18 @@ impl Listener for Finder {
         }
     }
 
-    fn full(&mut self, _flags: [bool; 2], _totals: [u64; 8]) {}
+    fn full(&mut self, _flags: [bool; 2], _totals: [u64; 8]) {
+        self.0.borrow_mut().is_full = true;
+    }
 
     fn ended(&mut self) {}
 }
 
-/// Everything that can be spoilt in a run, and at which call. The last call is one at which the Rust shows all.
-fn spoils(found: &Found, last: u64) -> Vec<(What, u64)> {
+/// Everything that can be spoilt in a run, and at which call: the opening, a call at which the Rust hides flags and counters,
+/// and the last.
+fn spoils(found: &Found) -> Vec<(What, u64)> {
     let mut all = vec![(What::OneMore, 0)];
-    for at in [0, last] {
+    for at in [0, found.hidden.unwrap_or(0), found.calls] {
         all.push((What::Returned, at));
         all.extend((0..8).map(|k| (What::Number(k), at)));
         all.extend((0..IMAGE_ROOM as usize).map(|k| (What::Image(k), at)));
@@ -162,7 +173,7 @@ pub fn spoil_all(runs: Runs, out: &mut impl Write) -> io::Result<bool> {
     let found = Rc::new(RefCell::new(Found::default()));
     play(runs.seed, runs.longest_block, Box::new(Finder(found.clone())));
     let found = found.take();
-    let all = spoils(&found, found.calls);
+    let all = spoils(&found);
     let one = Runs { count: 1, ..runs };
     let mut noticed = 0;
     for &(what, at) in &all {
@@ -174,7 +185,7 @@ pub fn spoil_all(runs: Runs, out: &mut impl Write) -> io::Result<bool> {
         }
     }
     let figure = !compare_functions(&mut Spoilt::new(What::Figure, 1000), &mut io::sink())?;
-    let complete = found.turn.is_some() && found.stop.is_some();
+    let complete = found.turn.is_some() && found.stop.is_some() && found.hidden.is_some();
     let (noticed, count) = (noticed + usize::from(figure), all.len() + 1);
     writeln!(out, "{noticed} of {count} spoilt outcomes noticed, in the run of seed {}", runs.seed)?;
     Ok(noticed == count && complete)
