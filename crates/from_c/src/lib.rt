@@ -9,4 +9,4 @@ pub use answer::not_an_image;
 pub use answer::write_numbers;
 pub use lists::commit_listed;
 pub use lists::stop_listed;
-pub use open::open_in;
+pub use open::open_stream;

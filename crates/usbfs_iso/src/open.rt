@@ -1,8 +1,5 @@
 // Opening from C.
-use from_c::not_an_image;
-use from_c::open_in;
-use image::policy_from;
-use layout::Setup;
+use from_c::open_stream;
 ghost use mathlib.Core.List.{[], _∷_};
 ghost use Rattle.from_c.specs.Told.{Returned};
 ghost use Rattle.from_c.specs.Open.{openFromC};
@@ -28,22 +25,17 @@ pub extern "C" fn usbfs_iso_open(
         (now (block .entry)) (now (image .entry)) (now (out .entry))) r (now (image .exit)) (now (block .exit))
         (now (out .exit)) ⌝ }
 {
-    if 2 < policy {
-        return not_an_image(out);
-    }
-    if 1 < tag {
-        return not_an_image(out);
-    }
-    let underrun = policy_from(policy);
-    let setup = Setup {
-        slots: slots as usize,
-        packets_per_urb: packets_per_urb as usize,
-        packet_bytes: packet_bytes as usize,
+    open_stream(
+        slots,
+        packets_per_urb,
+        packet_bytes,
         endpoint,
-        underrun,
+        policy,
         silence_byte,
-        base: base as usize,
-        tagged: tag == 1,
-    };
-    open_in(setup, block, image, out)
+        base,
+        tag,
+        block,
+        image,
+        out,
+    )
 }

@@ -1,4 +1,4 @@
--- `usbfs_iso::usbfs_iso_open` meets its contract: 31 for a number that names no policy or tag; else the values are those of the numbers. Assumes nothing.
+-- `from_c::open_stream` meets its contract: 31 for a number that names no policy or tag; else the values are those of the numbers. Assumes nothing.
 use Prim.Native.Nat.{ℕ, _%_, _<_}
 use native.Mathlib.Omega.{arith}
 use mathlib.Core.Path.{_≡_, refl, sym, ap, subst, _∙_}
@@ -12,12 +12,12 @@ use Rattle.layout.specs.declared.Setup.{Setup}
 use Rattle.layout.specs.Numbers.{setupFrom}
 use Rattle.opening.specs.Refusals.{opens}
 use Rattle.stream.specs.declared.Answer.{Answer}
 use Rattle.from_c.specs.Told.{told, Returned}
 use Rattle.from_c.specs.FromC.{notAnImage}
 use Rattle.from_c.specs.Open.{namesNone, openedFromC, openFromC}
 use borrow.Author.Needs.{needs}
-use Rattle.usbfs_iso.proofs.open.usbfs_iso_open.Statement.{statement}
-use Rattle.usbfs_iso.proofs.open.usbfs_iso_open.Tie as tie
+use Rattle.from_c.proofs.open.open_stream.Statement.{statement}
+use Rattle.from_c.proofs.open.open_stream.Tie as tie
 
 none : (numbers block buffer out : List ℕ) (n : ℕ) (out' : List ℕ) → namesNone numbers ≡ true
     → Returned (told (Answer.Refused Error.NotAnImage) [] [] out) n [] [] out' → Returned (openFromC numbers block buffer out) n buffer block out'
@@ -70,8 +70,8 @@ returns-3 c =
     })
     (o .open-in .ensures)
 
-pub usbfs-iso-open-spec : {M : Type 1} → statement M
-usbfs-iso-open-spec =
+pub open-stream-spec : {M : Type 1} → statement M
+open-stream-spec =
     tie.close
     (tie.spec
     (λ c κs. search needs)
