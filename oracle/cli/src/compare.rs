@@ -126,16 +126,15 @@ impl Listener for Comparison {
 
     fn full(&mut self, flags: [bool; 2], totals: [u64; 8]) {
         self.counts.borrow_mut().full += 1;
-        let [flags_at, counters_at] = self.hidden();
-        let started_armed: Vec<u8> = flags.iter().flat_map(|&f| u64::from(f).to_le_bytes()).collect();
-        let counters: Vec<u8> = totals.iter().flat_map(|total| total.to_le_bytes()).collect();
-        if self.side.image()[flags_at.clone()] != started_armed {
-            let other = self.side.image()[flags_at].to_vec();
-            self.differs("the flags", flags, other);
-        }
-        if self.side.image()[counters_at.clone()] != counters {
-            let other = self.side.image()[counters_at].to_vec();
-            self.differs("the counters", totals, other);
+        let flags = flags.iter().flat_map(|&flag| u64::from(flag).to_le_bytes()).collect::<Vec<u8>>();
+        let totals = totals.iter().flat_map(|total| total.to_le_bytes()).collect::<Vec<u8>>();
+        for (part, rust) in self.hidden().into_iter().zip([flags, totals]) {
+            // The paper's own player too, since it stands in for the Rust where that shows nothing.
+            let images = [self.side.image(), self.paper.image()];
+            let other = images.iter().map(|image| &image[part.clone()]).find(|&bytes| bytes != rust);
+            if let Some(other) = other.map(<[u8]>::to_vec) {
+                self.differs("the flags or the counters", rust, other);
+            }
         }
     }
 
