@@ -26,7 +26,7 @@ use Rattle.image.specs.Reading.{imageSize, recordIn}
 use Rattle.image.proofs.Sizes.{ledger-image-long}
 use Rattle.from_c.specs.Told.{FromC, told}
 use Rattle.from_c.specs.FromC.{notAnImage}
-use Rattle.from_c.specs.Open.{namesNone, openedFromC, openFromC}
+use Rattle.c_open.specs.Open.{namesNone, openedFromC, openFromC}
 use Rattle.c_history.specs.Calls.{CCall, callsOf, imageAfter}
 use Rattle.c_history.specs.Demand3.{Demand3FromC}
 use Rattle.c_history.proofs.AfterC.{in-step-after, image-after, logs-from-c}

@@ -5,7 +5,7 @@ use lib.ListN.{length, take}
 use Rattle.layout.specs.declared.Setup.{Setup}
 use Rattle.ledger.specs.Calls.{Call, turn, commit, commitFull, commitPackets, submitted, reaped, giveBack, start, stop, finish, lentTo}
 use Rattle.history.specs.History.{ledgerAfter}
-use Rattle.image.specs.Words.{listIn}
+use Rattle.encoding.specs.Words.{listIn}
 use Rattle.image.specs.Image.{ledgerImage}
 use Rattle.from_c.specs.Told.{FromC, told}
 use Rattle.from_c.specs.Calls.{ruleFromC, madeFromC}

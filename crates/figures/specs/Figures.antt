@@ -14,7 +14,7 @@ use Rattle.schedule.specs.declared.Packets.{Packets}
 use Rattle.schedule.specs.declared.descriptor.Endpoint.{Endpoint}
 use Rattle.schedule.specs.Speed.{fromRaw}
 use Rattle.schedule.specs.Derive.{derived, planned}
-use Rattle.image.specs.Words.{written}
+use Rattle.encoding.specs.Words.{written}
 use Rattle.image.specs.Reading.{imageSize}
 
 -- The returned number and the slice for the numbers.

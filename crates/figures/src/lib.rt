@@ -1,5 +1,5 @@
 // What a C host asks beside the calls: layout, image size, schedules.
-use from_c::write_numbers;
+use encoding::write_numbers;
 use image::size;
 use layout::Laid;
 use layout::RingLayout;

@@ -33,10 +33,10 @@ use Rattle.ledger.proofs.Shown.{stored-shown}
 use Rattle.ledger.proofs.Steps.{step-valid}
 use Rattle.ledger.proofs.Valid.{Valid, sound-valid, stored-sound}
 use Rattle.image.specs.declared.read.Read.{Read}
-use Rattle.image.specs.Words.{places, written, listIn}
+use Rattle.encoding.specs.Words.{places, written, listIn}
 use Rattle.image.specs.Image.{image, imageOf, ledgerImage}
 use Rattle.image.specs.Reading.{imageSize, setupIn, recordIn, matches, isImage}
-use Rattle.image.proofs.Bytes.{begins-long}
+use Rattle.encoding.proofs.Bytes.{begins-long}
 use Rattle.image.proofs.Matches.{record-wide}
 use Rattle.image.proofs.Sizes.{record-image-long}
 use Rattle.from_c.specs.Told.{FromC, unsigned64, eightOf, told, Returned}

@@ -7,7 +7,7 @@ use Rattle.ledger.specs.Commit.{commitPackets as commitPacketsRule}
 use Rattle.ledger.specs.Control.{stop as stopRule}
 use Rattle.ledger.specs.Calls.{Call, turn, commit, commitFull, commitPackets, submitted, reaped, giveBack, start, stop, finish}
 use Rattle.ledger.specs.Calls.{rule, lentTo}
-use Rattle.image.specs.Words.{words, listIn}
+use Rattle.encoding.specs.Words.{words, listIn}
 use Rattle.from_c.specs.Told.{FromC}
 use Rattle.from_c.specs.FromC.{fromC}
 

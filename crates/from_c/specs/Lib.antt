@@ -1,4 +1,3 @@
 pub mod Told
 pub mod FromC
 pub mod Calls
-pub mod Open

@@ -5,7 +5,7 @@ use mathlib.Core.Path.{_≡_}
 use lib.IntN.{ℤ, pos, negsuc}
 use Rattle.stream.specs.declared.Answer.{Answer}
 use Rattle.stream.specs.Numbers.{numbersOf}
-use Rattle.image.specs.Words.{places, written}
+use Rattle.encoding.specs.Words.{places, written}
 
 -- The returned number, the image's buffer, the block or list that was lent ([] where nothing was), and the slice for the eight numbers.
 pub record FromC : Type 0 where

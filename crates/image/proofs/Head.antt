@@ -12,10 +12,10 @@ use Rattle.layout.specs.Numbers.{setupNumbers}
 use Rattle.ring.specs.declared.Hand.{Hand}
 use Rattle.ring.specs.Counts.{allBelow}
 use Rattle.ring.proofs.Counts.{below-at}
-use Rattle.image.specs.Words.{words}
+use Rattle.encoding.specs.Words.{words}
 use Rattle.image.specs.Image.{handNumbers, setupFor}
 use Rattle.image.specs.Reading.{headerFor}
-use Rattle.image.proofs.Laid.{length-words}
+use Rattle.encoding.proofs.Laid.{length-words}
 
 pub length-header : (n used : ℕ) → length (words 4 (headerFor n used)) ≡ 24
 unfolding headerFor

@@ -20,11 +20,11 @@ use Rattle.stream.proofs.Soundness.{setup-admissible, ring-sound}
 use Rattle.ledger.specs.Record.{view}
 use Rattle.ledger.proofs.Shown.{view-shown}
 use Rattle.ledger.proofs.Valid.{Valid, sound-valid}
-use Rattle.image.specs.Words.{numbersAt, begins}
+use Rattle.encoding.specs.Words.{numbersAt, begins}
 use Rattle.image.specs.Image.{imageOf, image, ledgerImage}
 use Rattle.image.specs.Reading.{setupAt, countersAt, statsFrom, setupIn, recordIn, matches, isImage}
-use Rattle.image.proofs.Laid.{Bytes}
-use Rattle.image.proofs.Bytes.{begins-split}
+use Rattle.encoding.proofs.Laid.{Bytes}
+use Rattle.encoding.proofs.Bytes.{begins-split}
 use Rattle.image.proofs.Matches.{record-wide}
 use Rattle.image.proofs.ReadBack.{Fits, recordOf, record-in}
 use Rattle.image.proofs.RoundTrip.{Reads, round-trip, image-sound}

@@ -1,9 +1,6 @@
-pub mod Laid
-pub mod Bytes
 pub mod Head
 pub mod Sizes
 pub mod Matches
-pub mod Stands
 pub mod ReadBack
 pub mod RoundTrip
 pub mod Stored

@@ -13,7 +13,7 @@ use Rattle.layout.specs.declared.Setup.{Setup}
 use Rattle.ring.specs.declared.Hand.{Hand}
 use Rattle.ring.specs.declared.SlotState.{SlotState}
 use Rattle.ring.specs.Counts.{table}
-use Rattle.ring.specs.Codes.{stateNumber, stateFrom}
+use Rattle.encoding.specs.Codes.{stateNumber, stateFrom}
 use Rattle.ring.specs.Parts.{queueOf, stateOf}
 use Rattle.ring.proofs.Numbers.{table-long, table-same}
 use Rattle.ring.proofs.Restored.{with-queue, with-state, with-wide}
@@ -21,11 +21,11 @@ use Rattle.ring.proofs.Wide.{Wide}
 use Rattle.stream.specs.declared.Flags.{Flags}
 use Rattle.stream.specs.declared.Stream.{Stream}
 use Rattle.ledger.specs.Shown.{shownBy}
-use Rattle.image.specs.Words.{words, numbersAt, places, begins}
+use Rattle.encoding.specs.Words.{words, numbersAt, places, begins}
 use Rattle.image.specs.Image.{counterNumbers, setupFor, image}
 use Rattle.image.specs.Reading.{setupAt, statesAt, queueAt, countersAt, imageSize, headerFor, statsFrom, setupIn, handIn, flagsIn, queueIn, ringIn, recordIn, matches, Roomy}
-use Rattle.image.proofs.Laid.{Bytes, begins-append}
-use Rattle.image.proofs.Bytes.{begins-same, words-back}
+use Rattle.encoding.proofs.Laid.{Bytes, begins-append}
+use Rattle.encoding.proofs.Bytes.{begins-same, words-back}
 use Rattle.image.proofs.Head.{length-header, length-setup}
 use Rattle.image.proofs.Sizes.{image-parts, shown-by-long, part-long, places-long}
 

@@ -20,14 +20,15 @@ use Rattle.layout.proofs.Admission.{admits}
 use Rattle.layout.proofs.Numbers.{setup-back}
 use Rattle.ring.specs.declared.Hand.{Hand}
 use Rattle.ring.specs.declared.SlotState.{SlotState}
-use Rattle.ring.specs.Codes.{stateNumber, stateFrom}
+use Rattle.encoding.specs.Codes.{stateNumber, stateFrom}
 use Rattle.ring.specs.Counts.{table, allBelow}
 use Rattle.ring.specs.Parts.{ringWith}
 use Rattle.ring.specs.Slots.{one, handWithin}
 use Rattle.ring.proofs.Counts.{below-at}
-use Rattle.ring.proofs.Made.{state-small, made-same}
+use Rattle.encoding.proofs.StateNumbers.{state-small}
+use Rattle.ring.proofs.Made.{made-same}
 use Rattle.ring.proofs.Numbers.{table-long, table-at}
-use Rattle.ring.proofs.Restored.{state-back}
+use Rattle.encoding.proofs.StateNumbers.{state-back}
 use Rattle.ring.proofs.Truth.{first, second, one-at-most}
 use Rattle.stream.specs.declared.IsoStats.{IsoStats}
 use Rattle.stream.specs.declared.Stream.{Stream}
@@ -35,11 +36,11 @@ use Rattle.stream.proofs.Numbers.{one-back}
 use Rattle.ledger.specs.Ledger.{Ledger, stateIn}
 use Rattle.ledger.specs.Shown.{shownIn}
 use Rattle.ledger.proofs.Valid.{Valid, queue-fits}
-use Rattle.image.specs.Words.{words, numbersAt, places}
+use Rattle.encoding.specs.Words.{words, numbersAt, places}
 use Rattle.image.specs.Image.{handNumbers, counterNumbers, setupFor, ledgerImage}
 use Rattle.image.specs.Reading.{setupAt, handAt, flagsAt, statesAt, queueAt, countersAt, headerFor, handFrom, statsFrom, setupIn, handIn, flagsIn, queueIn, ringIn, recordIn}
-use Rattle.image.proofs.Laid.{words-append, byte-at}
-use Rattle.image.proofs.Stands.{Fit, Stands, next, read, read-all, room}
+use Rattle.encoding.proofs.Laid.{words-append, byte-at}
+use Rattle.encoding.proofs.Stands.{Fit, Stands, next, read, read-all, room}
 use Rattle.image.proofs.Head.{length-hand, header-fits}
 use Rattle.image.proofs.Sizes.{image-parts, shown-in-long, places-long}
 

@@ -23,10 +23,10 @@ use Rattle.ledger.specs.Record.{view, stored}
 use Rattle.ledger.specs.Shown.{shownBy}
 use Rattle.ledger.proofs.Shown.{stored-shown, ring-stores}
 use Rattle.ledger.proofs.Valid.{Valid, queue-fits, stored-sound, view-stored}
-use Rattle.image.specs.Words.{places, begins}
+use Rattle.encoding.specs.Words.{places, begins}
 use Rattle.image.specs.Image.{imageOf, image, ledgerImage}
 use Rattle.image.specs.Reading.{recordIn, matches, isImage}
-use Rattle.image.proofs.Bytes.{begins-same}
+use Rattle.encoding.proofs.Bytes.{begins-same}
 use Rattle.image.proofs.Sizes.{places-long}
 use Rattle.image.proofs.ReadBack.{Fits, recordOf, record-in}
 

@@ -6,18 +6,18 @@ use mathlib.Core.Path.{_≡_, refl, ap, ap₂, _∙_}
 use mathlib.Core.List.{List, [], _∷_, _++_, append-nil, map}
 use lib.ListN.{length, getD, length-append, length-map}
 use Rattle.layout.specs.declared.Setup.{Setup}
-use Rattle.ring.specs.Codes.{stateNumber}
+use Rattle.encoding.specs.Codes.{stateNumber}
 use Rattle.ring.specs.Parts.{stateOf}
 use Rattle.ring.proofs.Numbers.{table-long}
 use Rattle.stream.specs.declared.IsoStats.{IsoStats}
 use Rattle.stream.specs.declared.Stream.{Stream}
 use Rattle.ledger.specs.Ledger.{Ledger, stateIn}
 use Rattle.ledger.specs.Shown.{Shown, shownBy, shownIn}
-use Rattle.image.specs.Words.{words, places}
+use Rattle.encoding.specs.Words.{words, places}
 use Rattle.image.specs.Parts.{bytesOf, starts}
 use Rattle.image.specs.Image.{counterNumbers, setupFor, setupPart, statesPart, queuePart, countersPart, partsOf, headerPart, imageOf, image, ledgerImage}
 use Rattle.image.specs.Reading.{statesAt, queueAt, countersAt, imageSize, headerFor}
-use Rattle.image.proofs.Laid.{length-words}
+use Rattle.encoding.proofs.Laid.{length-words}
 use Rattle.image.proofs.Head.{count-setup, length-setup, length-header}
 
 pub places-long : (n : ℕ) (queue : List ℕ) → length (places n queue) ≡ n

@@ -10,9 +10,9 @@ use Rattle.sys.specs.Bytes.{le, store}
 use Rattle.sys.proofs.Store.{store-append}
 use Rattle.ring.specs.declared.SlotState.{SlotState}
 use Rattle.ring.specs.Counts.{table}
-use Rattle.ring.specs.Codes.{stateNumber}
+use Rattle.encoding.specs.Codes.{stateNumber}
 use Rattle.ring.specs.Parts.{queueOf, stateOf}
-use Rattle.ring.proofs.Made.{state-small}
+use Rattle.encoding.proofs.StateNumbers.{state-small}
 use Rattle.ring.proofs.Numbers.{table-long}
 use Rattle.ring.proofs.Queue.{queue-long}
 use Rattle.ring.proofs.Wide.{Wide}
@@ -20,7 +20,7 @@ use Rattle.stream.specs.declared.Stream.{Stream}
 use Rattle.stream.specs.Sound.{sound}
 use Rattle.stream.proofs.Soundness.{ring-sound}
 use Rattle.ledger.specs.Shown.{shownBy}
-use Rattle.image.specs.Words.{words, places}
+use Rattle.encoding.specs.Words.{words, places}
 use Rattle.image.specs.Image.{counterNumbers, setupFor, image}
 use Rattle.image.specs.Reading.{setupAt, statesAt, queueAt, countersAt, headerFor}
 use Rattle.image.proofs.Head.{length-header, length-setup}

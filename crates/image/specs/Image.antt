@@ -6,13 +6,13 @@ use lib.ListN.{length}
 use Rattle.layout.specs.declared.Setup.{Setup}
 use Rattle.layout.specs.Numbers.{setupNumbers}
 use Rattle.ring.specs.declared.Hand.{Hand}
-use Rattle.ring.specs.Codes.{stateNumber}
+use Rattle.encoding.specs.Codes.{stateNumber}
 use Rattle.ring.specs.Slots.{one}
 use Rattle.stream.specs.declared.IsoStats.{IsoStats}
 use Rattle.stream.specs.declared.Stream.{Stream}
 use Rattle.ledger.specs.Ledger.{Ledger}
 use Rattle.ledger.specs.Shown.{Shown, shownBy, shownIn}
-use Rattle.image.specs.Words.{places}
+use Rattle.encoding.specs.Words.{places}
 use Rattle.image.specs.Parts.{Part, bytesOf, starts}
 
 -- The hand: kind 0 to 3 as listed, slot, left, unused ones zero.

@@ -1,4 +1,3 @@
-pub mod Words
 pub mod Parts
 pub mod Image
 pub mod Reading

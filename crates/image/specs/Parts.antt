@@ -2,7 +2,7 @@
 use Prim.Native.Nat.{ℕ, _+_, _*_}
 use mathlib.Core.List.{List, [], _∷_, _++_}
 use lib.ListN.{length}
-use Rattle.image.specs.Words.{words}
+use Rattle.encoding.specs.Words.{words}
 
 pub record Part : Type 0 where
   pub width : ℕ

@@ -11,13 +11,13 @@ use Rattle.layout.specs.declared.Setup.{Setup}
 use Rattle.layout.specs.Numbers.{setupFrom}
 use Rattle.ring.specs.declared.Hand.{Hand}
 use Rattle.ring.specs.declared.Ring.{Ring}
-use Rattle.ring.specs.Codes.{stateFrom}
+use Rattle.encoding.specs.Codes.{stateFrom}
 use Rattle.ring.specs.Parts.{ringWith}
 use Rattle.stream.specs.declared.Flags.{Flags}
 use Rattle.stream.specs.declared.IsoStats.{IsoStats}
 use Rattle.stream.specs.declared.Stream.{Stream}
 use Rattle.stream.specs.Sound.{sound}
-use Rattle.image.specs.Words.{numbersAt, begins}
+use Rattle.encoding.specs.Words.{numbersAt, begins}
 use Rattle.image.specs.Image.{image}
 
 -- Where the parts start, for n slots, each behind the one before it; and the image's size.

@@ -2,7 +2,6 @@
 // record that stands in them, and gives that record; writing stores a record's image over the old one.
 mod numbers;
 mod read;
-mod words;
 mod write;
 
 pub use numbers::bit;
@@ -10,6 +9,4 @@ pub use numbers::size;
 pub use read::Read;
 pub use read::policy_from;
 pub use read::read_image;
-pub use words::get_words;
-pub use words::put_words;
 pub use write::write_image;

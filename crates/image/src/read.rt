@@ -9,7 +9,8 @@ use crate::numbers::place;
 use crate::numbers::queue_at;
 use crate::numbers::setup_numbers;
 use crate::numbers::size;
-use crate::words::has_words;
+use encoding::from_codes;
+use encoding::has_words;
 use layout::Setup;
 use layout::Underrun;
 use opening::no_stream;
@@ -29,9 +30,9 @@ ghost use lib.ListN.{length, take, drop, getD, replicate};
 ghost use Rattle.sys.specs.Bytes.{field};
 ghost use Rattle.layout.specs.Numbers.{policyFrom};
 ghost use Rattle.ring.specs.Counts.{table};
-ghost use Rattle.ring.specs.Codes.{stateNumber, stateFrom};
+ghost use Rattle.encoding.specs.Codes.{stateNumber, stateFrom};
 ghost use Rattle.opening.specs.Opened.{noStream};
-ghost use Rattle.image.specs.Words.{words, numbersAt, places, begins};
+ghost use Rattle.encoding.specs.Words.{words, numbersAt, places, begins};
 ghost use Rattle.image.specs.Image.{setupFor};
 ghost use Rattle.image.specs.Reading.{setupAt, statesAt, queueAt, countersAt, imageSize, headerFor, Roomy};
 ghost use Rattle.image.specs.Reading.{handFrom, statsFrom};
@@ -166,7 +167,7 @@ fn read_ring(image: &[u8], n: usize, used: usize) -> Ring
 {
     let free = read_queue(image, n);
     let end = queue_at(n);
-    Ring::from_codes(&image[STATES_AT..end], free, used)
+    from_codes(&image[STATES_AT..end], free, used)
 }
 
 // Internal: whether each of n states is 0 to 3.

@@ -7,7 +7,8 @@ use crate::numbers::header_numbers;
 use crate::numbers::place;
 use crate::numbers::queue_at;
 use crate::numbers::setup_numbers;
-use crate::words::put_words;
+use encoding::put_states;
+use encoding::put_words;
 use layout::Setup;
 use ring::Hand;
 use ring::Ring;
@@ -20,10 +21,10 @@ ghost use Prim.Native.Nat.{_+_, _*_, _≤_};
 ghost use lib.ListN.{length, take};
 ghost use Rattle.sys.specs.Bytes.{store};
 ghost use Rattle.ring.specs.Counts.{table};
-ghost use Rattle.ring.specs.Codes.{stateNumber};
+ghost use Rattle.encoding.specs.Codes.{stateNumber};
 ghost use Rattle.ring.specs.Parts.{queueOf, stateOf};
 ghost use Rattle.stream.specs.Sound.{sound};
-ghost use Rattle.image.specs.Words.{words, places};
+ghost use Rattle.encoding.specs.Words.{words, places};
 ghost use Rattle.image.specs.Image.{setupFor, image as imageBytes};
 ghost use Rattle.image.specs.Reading.{setupAt, statesAt, queueAt, imageSize, headerFor};
 
@@ -61,7 +62,7 @@ fn write_ring(ring: Ring, n: usize, image: &mut [u8])
         (store statesAt (table (λ i. stateNumber (stateOf ring i)) n) (now (image .entry))) ⌝ }
 {
     let end = queue_at(n);
-    ring.put_states(&mut image[STATES_AT..end]);
+    put_states(ring, &mut image[STATES_AT..end]);
     let free = ring.free;
     put_queue(image, end, n, free, ring.free_len)
 }

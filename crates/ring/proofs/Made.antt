@@ -6,23 +6,14 @@ use mathlib.Core.Path.{_≡_, refl, sym, ap, ap₂, _∙_}
 use mathlib.Core.List.{List}
 use lib.ListN.{replicate}
 use Rattle.ring.specs.declared.SlotState.{SlotState}
-use Rattle.ring.specs.declared.SlotState.the-variants.{Free, Filling, InFlight, Discarding}
+use Rattle.ring.specs.declared.SlotState.the-variants.{Free}
 use Rattle.ring.specs.declared.Ring.{Ring}
 use Rattle.ring.specs.Slots.{isOut}
 use Rattle.ring.specs.Counts.{howMany}
 use Rattle.ring.specs.Parts.{stateOf, withState, withStates, ringWith}
-use Rattle.ring.specs.Codes.{stateNumber}
 use Rattle.ring.proofs.Counts.{count-same}
 use Rattle.ring.proofs.States.{states-parts}
 use Rattle.ring.proofs.Restored.{with-out, with-state}
-
--- a state's number is a byte
-pub state-small : (x : SlotState) → stateNumber x < 256
-unfolding stateNumber
-state-small Free = omega arith
-state-small Filling = omega arith
-state-small InFlight = omega arith
-state-small Discarding = omega arith
 
 module _ (n : ℕ) (state : ℕ → SlotState) (free : List ℕ) (used : ℕ) where
   pub made-len : ringWith n state free used .«free_len» ≡ used

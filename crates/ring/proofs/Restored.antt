@@ -1,15 +1,14 @@
 -- Laws of a ring that is made of states and a queue's places: each state below n is the one that was put, and the queue is the used places. From the
--- laws of states put. And a state is read back from its number. Assumes nothing.
+-- laws of states put. Assumes nothing.
 use Prim.Native.Nat.{ℕ, _≤_, _<_}
 use mathlib.Core.Path.{_≡_, refl, ap, ap₂, _∙_}
 use mathlib.Core.List.{List}
 use lib.ListN.{length, take, replicate, length-replicate}
 use Rattle.ring.specs.declared.Ring.{Ring}
 use Rattle.ring.specs.declared.SlotState.{SlotState}
-use Rattle.ring.specs.declared.SlotState.the-variants.{Free, Filling, InFlight, Discarding}
+use Rattle.ring.specs.declared.SlotState.the-variants.{Free}
 use Rattle.ring.specs.Slots.{isOut}
 use Rattle.ring.specs.Counts.{howMany}
-use Rattle.ring.specs.Codes.{stateNumber, stateFrom}
 use Rattle.ring.specs.Parts.{queueOf, stateOf, ringWith}
 use Rattle.ring.proofs.States.{states-wide, states-parts, state-below, Parts}
 use Rattle.ring.proofs.Wide.{Wide}
@@ -45,10 +44,3 @@ module _ (n : ℕ) (state : ℕ → SlotState) (free : List ℕ) (used : ℕ) wh
   pub with-wide : length free ≡ 256 → Wide (ringWith n state free used)
   unfolding ringWith blank
   with-wide long = record { states = states-wide state blank n refl; places = ap length (with-parts .free) ∙ long }
-
-pub state-back : (x : SlotState) → stateFrom (stateNumber x) ≡ x
-unfolding stateFrom stateNumber
-state-back Free = refl
-state-back Filling = refl
-state-back InFlight = refl
-state-back Discarding = refl

@@ -1,6 +1,5 @@
 pub mod Slots
 pub mod Counts
 pub mod Parts
-pub mod Codes
 pub mod Sound
 pub mod Moves

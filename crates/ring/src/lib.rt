@@ -1,8 +1,6 @@
 // The ring's slots and its free queue, the hand, and the test that they are sound.
 // The queue is held front first, in the first free_len places of `free`. What stands behind it, and the states of slots
 // that the ring doesn't have, are never looked at and never change.
-mod codes;
-
 ghost use mathlib.Core.Path.{_≡_};
 ghost use mathlib.Core.Bool.{false};
 ghost use mathlib.Core.List.{_++_};
@@ -137,7 +135,7 @@ fn moved_down(mut free: [u8; 256], count: usize) -> Moved
 }
 
 // Internal: every slot Free.
-fn all_free() -> [Cell; 256]
+pub fn all_free() -> [Cell; 256]
     ensures { λ r. ⌜ r ≡ replicate 256 (record { state = SlotState.Free }) ⌝ }
 {
     [Cell {

@@ -1,8 +1,8 @@
 // The ten calls. Each reads the record from its image, makes the call by value and stores the record's image again.
+use c_lists::commit_listed;
+use c_lists::stop_listed;
 use from_c::answered;
-use from_c::commit_listed;
 use from_c::not_an_image;
-use from_c::stop_listed;
 use image::read_image;
 use stream::Reaping;
 use stream::Submission;

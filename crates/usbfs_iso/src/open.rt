@@ -1,8 +1,8 @@
 // Opening from C.
-use from_c::open_stream;
+use c_open::open_stream;
 ghost use mathlib.Core.List.{[], _∷_};
 ghost use Rattle.from_c.specs.Told.{Returned};
-ghost use Rattle.from_c.specs.Open.{openFromC};
+ghost use Rattle.c_open.specs.Open.{openFromC};
 
 // Opens a ring in the block and writes its image.
 #[no_mangle]

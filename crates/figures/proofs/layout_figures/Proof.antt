@@ -7,7 +7,7 @@ use Rattle.error.specs.Number.{numberOf}
 use Rattle.layout.specs.declared.Laid.{Laid}
 use Rattle.layout.specs.declared.RingLayout.{RingLayout}
 use Rattle.layout.specs.Layout.{laidOut}
-use Rattle.image.specs.Words.{written}
+use Rattle.encoding.specs.Words.{written}
 use Rattle.figures.specs.Figures.{Figured, layoutFigures, layoutFromC}
 use borrow.Author.Needs.{needs}
 use Rattle.figures.proofs.layout_figures.Statement.{statement}

@@ -6,7 +6,7 @@ use Rattle.error.specs.declared.Error.{Error}
 use Rattle.error.specs.Number.{numberOf}
 use Rattle.schedule.specs.declared.Derived.{Derived}
 use Rattle.schedule.specs.declared.Schedule.{Schedule}
-use Rattle.image.specs.Words.{written}
+use Rattle.encoding.specs.Words.{written}
 use Rattle.figures.specs.Figures.{Figured, scheduleFigures}
 use borrow.Author.Needs.{needs}
 use Rattle.figures.proofs.schedule_figures.Statement.{statement}

@@ -6,7 +6,7 @@ use Prim.Native.Nat.{ℕ, _^_, _≤_, _<_}
 use native.Mathlib.Omega.{arith}
 use borrow.Author.Tests.{not-true, not-false}
 use lib.ListN.{drop, getD}
-use Rattle.image.specs.Words.{words, begins}
+use Rattle.encoding.specs.Words.{words, begins}
 use Rattle.image.specs.Image.{setupFor}
 use Rattle.image.specs.Reading.{headerFor}
 use Rattle.image.proofs.Head.{header-fits, header-room, setup-room}

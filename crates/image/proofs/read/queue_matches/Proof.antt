@@ -11,9 +11,9 @@ use lib.ListN.{length, take, drop, replicate, length-map, List·getD-append, Lis
 use Rattle.sys.specs.Bytes.{field}
 use Rattle.ring.specs.Counts.{table}
 use Rattle.ring.proofs.Numbers.{table-long, table-at}
-use Rattle.image.specs.Words.{words, numbersAt, places, begins}
+use Rattle.encoding.specs.Words.{words, numbersAt, places, begins}
 use Rattle.image.specs.Reading.{queueAt, queueIn}
-use Rattle.image.proofs.Laid.{Bytes, entry, held-place, begins-none, begins-more, begins-not}
+use Rattle.encoding.proofs.Laid.{Bytes, entry, held-place, begins-none, begins-more, begins-not}
 use Rattle.image.proofs.read.queue_matches.Statement.{statement}
 use Rattle.image.proofs.read.queue_matches.Tie as tie
 

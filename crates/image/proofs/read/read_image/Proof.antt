@@ -15,10 +15,10 @@ use Rattle.ring.proofs.Truth.{refuted}
 use Rattle.stream.specs.declared.Stream.{Stream}
 use Rattle.opening.specs.Opened.{noStream}
 use Rattle.image.specs.declared.read.Read.{Read}
-use Rattle.image.specs.Words.{numbersAt}
+use Rattle.encoding.specs.Words.{numbersAt}
 use Rattle.image.specs.Image.{image}
 use Rattle.image.specs.Reading.{setupAt, imageSize, setupIn, recordIn, matches, Roomy}
-use Rattle.image.proofs.Bytes.{begins-long}
+use Rattle.encoding.proofs.Bytes.{begins-long}
 use Rattle.image.proofs.Sizes.{record-image-long}
 use borrow.Author.Needs.{needs}
 use Rattle.image.proofs.read.read_image.Statement.{statement}

@@ -11,13 +11,13 @@ use borrow.Author.Tests.{not-true, not-false}
 use lib.ListN.{take, drop, getD}
 use Rattle.sys.specs.Bytes.{field}
 use Rattle.ring.specs.Counts.{table}
-use Rattle.ring.specs.Codes.{stateNumber, stateFrom}
+use Rattle.encoding.specs.Codes.{stateNumber, stateFrom}
 use Rattle.stream.specs.declared.Stream.{Stream}
 use Rattle.opening.specs.Opened.{noStream}
 use Rattle.image.specs.declared.read.Read.{Read}
-use Rattle.image.specs.Words.{words, numbersAt, places, begins}
+use Rattle.encoding.specs.Words.{words, numbersAt, places, begins}
 use Rattle.image.specs.Reading.{statesAt, queueAt, countersAt, statsFrom, queueIn, ringIn, recordIn, matches}
-use Rattle.image.proofs.Laid.{Bytes}
+use Rattle.encoding.proofs.Laid.{Bytes}
 use Rattle.image.proofs.Matches.{by-parts}
 use Rattle.image.proofs.read.read_parts.Statement.{statement}
 use Rattle.image.proofs.read.read_parts.Tie as tie

@@ -8,9 +8,9 @@ use borrow.Author.Needs.{needs}
 use lib.ListN.{replicate}
 use Rattle.sys.specs.Bytes.{field}
 use Rattle.ring.specs.Counts.{table}
-use Rattle.image.specs.Words.{numbersAt}
+use Rattle.encoding.specs.Words.{numbersAt}
 use Rattle.image.specs.Reading.{queueAt, queueIn}
-use Rattle.image.proofs.Laid.{read-more}
+use Rattle.encoding.proofs.Laid.{read-more}
 use Rattle.image.proofs.read.read_queue.Statement.{statement}
 use Rattle.image.proofs.read.read_queue.Tie as tie
 

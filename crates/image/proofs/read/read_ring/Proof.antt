@@ -7,7 +7,7 @@ use native.Mathlib.Omega.{arith}
 use lib.ListN.{length, take, drop, getD, length-take, length-drop}
 use Rattle.sys.specs.Bytes.{field}
 use Rattle.ring.specs.declared.Ring.{Ring}
-use Rattle.ring.specs.Codes.{stateFrom}
+use Rattle.encoding.specs.Codes.{stateFrom}
 use Rattle.ring.specs.Parts.{ringWith}
 use Rattle.image.specs.Reading.{statesAt, imageSize, queueIn, ringIn}
 use borrow.Author.Needs.{needs}

@@ -4,7 +4,7 @@ use Prim.Native.Nat.{ℕ, _%_}
 use lib.Dec.{eqb}
 use Rattle.ring.specs.Counts.{table}
 use Rattle.layout.specs.Numbers.{policyFrom, setupFrom}
-use Rattle.image.specs.Words.{numbersAt}
+use Rattle.encoding.specs.Words.{numbersAt}
 use Rattle.image.specs.Reading.{setupIn}
 use borrow.Author.Needs.{needs}
 use Rattle.image.proofs.read.read_setup.Statement.{statement}

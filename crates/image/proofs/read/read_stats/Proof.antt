@@ -4,7 +4,7 @@ use Prim.Native.Nat.{ℕ, _+_}
 use native.Mathlib.Nat.{add-zero}
 use Rattle.sys.specs.Bytes.{field}
 use Rattle.ring.specs.Counts.{table}
-use Rattle.image.specs.Words.{numbersAt}
+use Rattle.encoding.specs.Words.{numbersAt}
 use Rattle.image.specs.Reading.{countersAt, statsFrom}
 use borrow.Author.Needs.{needs}
 use Rattle.image.proofs.read.read_stats.Statement.{statement}

@@ -10,10 +10,10 @@ use lib.ListN.{drop, getD}
 use Rattle.ring.specs.declared.SlotState.{SlotState}
 use Rattle.ring.specs.declared.SlotState.the-variants.{Free, Filling, InFlight, Discarding}
 use Rattle.ring.specs.Counts.{table}
-use Rattle.ring.specs.Codes.{stateNumber, stateFrom}
-use Rattle.image.specs.Words.{words, begins}
+use Rattle.encoding.specs.Codes.{stateNumber, stateFrom}
+use Rattle.encoding.specs.Words.{words, begins}
 use Rattle.image.specs.Reading.{statesAt}
-use Rattle.image.proofs.Laid.{byte-at, begins-none, begins-more, begins-not}
+use Rattle.encoding.proofs.Laid.{byte-at, begins-none, begins-more, begins-not}
 use Rattle.image.proofs.read.states_match.Statement.{statement}
 use Rattle.image.proofs.read.states_match.Tie as tie
 

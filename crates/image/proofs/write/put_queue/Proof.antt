@@ -8,8 +8,8 @@ use borrow.Author.Needs.{needs}
 use lib.ListN.{length, take}
 use Rattle.sys.specs.Bytes.{le, store}
 use Rattle.ring.specs.Counts.{table}
-use Rattle.image.specs.Words.{words, places}
-use Rattle.image.proofs.Laid.{entry, held-place, store-none, store-more}
+use Rattle.encoding.specs.Words.{words, places}
+use Rattle.encoding.proofs.Laid.{entry, held-place, store-none, store-more}
 use Rattle.image.proofs.write.put_queue.Statement.{statement}
 use Rattle.image.proofs.write.put_queue.Tie as tie
 

@@ -5,7 +5,7 @@ use Prim.Native.Nat.{ℕ, _+_, _≤_}
 use native.Mathlib.Omega.{arith}
 use lib.ListN.{length}
 use Rattle.sys.specs.Bytes.{store}
-use Rattle.image.specs.Words.{words}
+use Rattle.encoding.specs.Words.{words}
 use Rattle.image.specs.Image.{setupFor}
 use Rattle.image.specs.Reading.{headerFor}
 use Rattle.image.proofs.Head.{header-room, setup-room}

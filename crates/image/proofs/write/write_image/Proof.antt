@@ -12,10 +12,10 @@ use Rattle.stream.specs.declared.Stream.{Stream}
 use Rattle.stream.specs.Sound.{sound}
 use Rattle.stream.proofs.Soundness.{ring-sound}
 use Rattle.stream.proofs.Arrays.{arrays}
-use Rattle.image.specs.Words.{words, places}
+use Rattle.encoding.specs.Words.{words, places}
 use Rattle.image.specs.Image.{counterNumbers, setupFor, image}
 use Rattle.image.specs.Reading.{statesAt, queueAt, countersAt, imageSize, headerFor}
-use Rattle.image.proofs.Laid.{length-words}
+use Rattle.encoding.proofs.Laid.{length-words}
 use Rattle.image.proofs.Stored.{image-stored}
 use borrow.Author.Needs.{needs}
 use Rattle.image.proofs.write.write_image.Statement.{statement}

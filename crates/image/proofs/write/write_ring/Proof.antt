@@ -9,10 +9,10 @@ use borrow.Rule.Slice.PartMut.{putMid}
 use Rattle.sys.specs.Bytes.{store}
 use Rattle.sys.proofs.Store.{put-back}
 use Rattle.ring.specs.Counts.{table}
-use Rattle.ring.specs.Codes.{stateNumber}
+use Rattle.encoding.specs.Codes.{stateNumber}
 use Rattle.ring.specs.Parts.{queueOf, stateOf}
 use Rattle.ring.proofs.Numbers.{table-long}
-use Rattle.image.specs.Words.{words, places}
+use Rattle.encoding.specs.Words.{words, places}
 use Rattle.image.specs.Reading.{statesAt, queueAt, imageSize}
 use borrow.Author.Needs.{needs}
 use Rattle.image.proofs.write.write_ring.Statement.{statement}

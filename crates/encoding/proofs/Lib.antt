@@ -1,0 +1,4 @@
+pub mod Laid
+pub mod Bytes
+pub mod Stands
+pub mod StateNumbers
