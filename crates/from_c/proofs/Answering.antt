@@ -1,11 +1,11 @@
--- What a call from C has to show, once for every call: 31 where the bytes are not the image of a sound record, be it that they don't match or that
--- the call by value gave 8; else the rule's outcome, since no rule answers 8 and the record that is stored shows the rule's ledger. Assumes nothing.
+-- What a call from C has to show, once for every call: 31 where the bytes are not the image of a sound record, since
+-- the call by value gave 8 on what was read; else the rule's outcome, since no rule answers 8 and the record that is stored shows the rule's ledger. Assumes nothing.
 use Prim.Native.Nat.{ℕ, _≤_}
 use native.Mathlib.Omega.{arith}
 use mathlib.Core.Path.{_≡_, refl, sym, ap, ap₂, _∙_}
-use mathlib.Core.Bool.{Bool, true, false, not, cond, _&&_}
+use mathlib.Core.Bool.{Bool, true, false, cond, _&&_}
 use mathlib.Core.List.{List, [], _∷_, map}
-use borrow.Author.Tests.{not-true, not-false, leb-true, le-leb, eq-eqb, ne-eqb}
+use borrow.Author.Tests.{le-leb, eq-eqb, ne-eqb}
 use lib.Dec.{leb, eqb}
 use lib.ListN.{length}
 use Rattle.error.specs.declared.Error.{Error}
@@ -21,6 +21,7 @@ use Rattle.stream.specs.Numbers.{Numbers, numbersOf}
 use Rattle.stream.specs.Sound.{sound}
 use Rattle.stream.proofs.Soundness.{ring-sound, setup-admissible}
 use Rattle.opening.specs.Opened.{noStream}
+use Rattle.opening.proofs.Fresh.{no-stream-unsound}
 use Rattle.ledger.specs.Ledger.{Ledger}
 use Rattle.ledger.specs.Step.{Next, Rule}
 use Rattle.ledger.specs.Record.{view, stored, Outcome, call}
@@ -32,7 +33,6 @@ use Rattle.ledger.proofs.Numbered.{never-8}
 use Rattle.ledger.proofs.Shown.{stored-shown}
 use Rattle.ledger.proofs.Steps.{step-valid}
 use Rattle.ledger.proofs.Valid.{Valid, sound-valid, stored-sound}
-use Rattle.image.specs.declared.read.Read.{Read}
 use Rattle.encoding.specs.Words.{places, written, listIn}
 use Rattle.image.specs.Image.{image, imageOf, ledgerImage}
 use Rattle.image.specs.Reading.{imageSize, setupIn, recordIn, matches, isImage}
@@ -87,92 +87,71 @@ told-called c e s r left t =
     }
 
 -- what reading gave
-abbrev pub Given : List ℕ → Read → Type 0
-Given bytes r =
-    (r .ok ≡ (leb (setupIn bytes .slots) 256 && matches bytes)) × (r .stream ≡ cond (r .ok) (recordIn bytes) noStream)
+abbrev pub Given : List ℕ → Stream → Type 0
+Given bytes s = s ≡ cond (leb (setupIn bytes .slots) 256 && matches bytes) (recordIn bytes) noStream
 
-module _ (bytes : List ℕ) where
-  sound-few : sound (recordIn bytes) ≡ true → setupIn bytes .slots ≤ 256
-  unfolding recordIn
-  sound-few ok = ring-sound (recordIn bytes) ok .few
+-- a record that is not sound was read where the bytes are no image of a sound one
+unread : (bytes : List ℕ) (s : Stream) → Given bytes s → isImage bytes ≡ false → sound s ≡ false
+unfolding isImage
+unread bytes s is off = refuted (sound s) (λ ok. go ok (leb (setupIn bytes .slots) 256) (matches bytes) refl refl)
+  where
+    clash : (b : Bool) → b ≡ false → b ≡ true → ⊥
+    clash b p q = let z : _≡_ {A = ℕ} 0 1 = cc in omega arith
 
-  unread : (r : Read) → Given bytes r → not (r .ok) ≡ true → isImage bytes ≡ false
-  unfolding isImage
-  unread r is off =
-      refuted (isImage bytes)
-      (λ yes.
-      let ok : sound (recordIn bytes) ≡ true = first (sound (recordIn bytes)) (matches bytes) yes in
-      let on : r .ok ≡ true = is .0 ∙ both _ _ (le-leb (setupIn bytes .slots) 256 (sound-few ok)) (second (sound (recordIn bytes)) (matches bytes) yes) in
-      clash (r .ok) (not-true (r .ok) off) on)
-    where
-      clash : (b : Bool) → b ≡ false → b ≡ true → ⊥
-      clash b p q = let z : _≡_ {A = ℕ} 0 1 = cc in omega arith
+    go : sound s ≡ true → (few match : Bool) → leb (setupIn bytes .slots) 256 ≡ few → matches bytes ≡ match → ⊥
+    go ok true true e m = clash (isImage bytes) off (both _ _ (ap sound (sym (is ∙ rw (e, m))) ∙ ok) m)
+    go ok true false e m = clash (sound noStream) no-stream-unsound (ap sound (sym (is ∙ rw (e, m))) ∙ ok)
+    go ok false match e m = clash (sound noStream) no-stream-unsound (ap sound (sym (is ∙ rw e)) ∙ ok)
 
--- 31 where the bytes don't match
-pub refused : (c : Call) (bytes : List ℕ) (r : Read) → Given bytes r → not (r .ok) ≡ true → (out : List ℕ) (n : ℕ) (out' : List ℕ)
-    → Returned (told (Answer.Refused Error.NotAnImage) [] [] out) n [] [] out' → Returned (madeFromC c bytes out) n bytes (lentTo c) out'
-unfolding madeFromC fromC notAnImage told
-refused c bytes r is off out n out' t =
-    rw (unread bytes r is off) (record { returned = t .returned; image = refl; lent = refl; out = t .out })
+module _ (c : Call) (bytes : List ℕ) (s : Stream) (is : Given bytes s) (reply : Reply) (left : List ℕ) (called : Called (ruleFromC c) s (lentTo c) reply left) where
+  -- no image: 8, and what was lent is as it was
+  module _ (off : isImage bytes ≡ false) where
+    eight : numbersOf (reply .answer) .number ≡ 8
+    unfolding call numbersOf
+    eight = ap (λ (x : Numbers). x .number) (called .answer) ∙ rw (unread bytes s is off)
 
-module _ (c : Call) (bytes : List ℕ) (r : Read) (is : Given bytes r) (on : not (r .ok) ≡ false) (reply : Reply) (left : List ℕ) (called : Called (ruleFromC c) (r .stream) (lentTo c) reply left) where
-  read : r .stream ≡ recordIn bytes
-  read = is .1 ∙ rw (not-false (r .ok) on)
-
-  match : matches bytes ≡ true
-  match = second (leb (setupIn bytes .slots) 256) (matches bytes) (sym (is .0) ∙ not-false (r .ok) on)
-
-  few : setupIn bytes .slots ≤ 256
-  few = leb-true (setupIn bytes .slots) 256 (first (leb (setupIn bytes .slots) 256) (matches bytes) (sym (is .0) ∙ not-false (r .ok) on))
-
-  wide : Wide (recordIn bytes .ring)
-  wide = record-wide bytes few
+    kept-lent : left ≡ lentTo c
+    unfolding call
+    kept-lent = called .lent ∙ rw (unread bytes s is off)
 
   next : Next
   next = ruleFromC c (recordIn bytes .setup) (view (recordIn bytes)) (lentTo c)
 
-  outcome : Outcome
-  outcome = call (ruleFromC c) (recordIn bytes) (lentTo c)
+  -- an image: the rule's outcome
+  module _ (on : isImage bytes ≡ true) where
+    ok : sound (recordIn bytes) ≡ true
+    unfolding isImage
+    ok = first (sound (recordIn bytes)) (matches bytes) on
 
-  answer : numbersOf (reply .answer) ≡ numbersOf (outcome .answer)
-  unfolding outcome
-  answer = called .answer ∙ ap (λ (s : Stream). numbersOf (call (ruleFromC c) s (lentTo c) .answer)) read
+    match : matches bytes ≡ true
+    unfolding isImage
+    match = second (sound (recordIn bytes)) (matches bytes) on
 
-  stream : reply .stream ≡ outcome .stream
-  unfolding outcome
-  stream = called .stream ∙ ap (λ (s : Stream). call (ruleFromC c) s (lentTo c) .stream) read
+    few : setupIn bytes .slots ≤ 256
+    unfolding recordIn
+    few = ring-sound (recordIn bytes) ok .few
 
-  lent : left ≡ outcome .lent
-  unfolding outcome
-  lent = called .lent ∙ ap (λ (s : Stream). call (ruleFromC c) s (lentTo c) .lent) read
+    wide : Wide (recordIn bytes .ring)
+    wide = record-wide bytes few
 
-  -- the record is not sound: 8
-  module _ (off : sound (recordIn bytes) ≡ false) where
-    eight : numbersOf (reply .answer) .number ≡ 8
-    unfolding outcome call numbersOf
-    eight = ap (λ (x : Numbers). x .number) answer ∙ rw off
+    read : s ≡ recordIn bytes
+    read = is ∙ rw (le-leb (setupIn bytes .slots) 256 few, match)
 
-    kept-lent : left ≡ lentTo c
-    unfolding outcome call
-    kept-lent = lent ∙ rw off
-
-  -- it is: the rule's outcome
-  module _ (ok : sound (recordIn bytes) ≡ true) where
     valid : Valid (recordIn bytes .setup .slots) (next .ledger)
     unfolding next
     valid = kept c (recordIn bytes .setup .slots) (recordIn bytes .setup) (view (recordIn bytes)) (sound-valid (recordIn bytes) ok wide)
 
     answers : numbersOf (reply .answer) ≡ numbersOf (next .answer)
-    unfolding outcome call next
-    answers = answer ∙ rw ok
+    unfolding call next
+    answers = called .answer ∙ rw (read, ok)
 
     stores : reply .stream ≡ stored (recordIn bytes) (next .ledger)
-    unfolding outcome call next
-    stores = stream ∙ rw ok
+    unfolding call next
+    stores = called .stream ∙ rw (read, ok)
 
     leaves : left ≡ next .lent
-    unfolding outcome call next
-    leaves = lent ∙ rw ok
+    unfolding call next
+    leaves = called .lent ∙ rw (read, ok)
 
     not-eight : numbersOf (reply .answer) .number ≡ 8 → ⊥
     unfolding next
@@ -195,36 +174,36 @@ module _ (c : Call) (bytes : List ℕ) (r : Read) (is : Given bytes r) (on : not
 
   -- what telling the reply asks for
   pub writable : Writable reply bytes
-  writable = record { sound = λ not-8. go-sound not-8 (sound (recordIn bytes)) refl; room = λ not-8. go-room not-8 (sound (recordIn bytes)) refl }
+  writable = record { sound = λ not-8. go-sound not-8 (isImage bytes) refl; room = λ not-8. go-room not-8 (isImage bytes) refl }
     where
-      go-sound : (numbersOf (reply .answer) .number ≡ 8 → ⊥) → (b : Bool) → sound (recordIn bytes) ≡ b → sound (reply .stream) ≡ true
+      go-sound : (numbersOf (reply .answer) .number ≡ 8 → ⊥) → (b : Bool) → isImage bytes ≡ b → sound (reply .stream) ≡ true
       go-sound not-8 true e = still-sound e
       go-sound not-8 false e = absurd (not-8 (eight e))
 
-      go-room : (numbersOf (reply .answer) .number ≡ 8 → ⊥) → (b : Bool) → sound (recordIn bytes) ≡ b → imageSize (reply .stream .setup .slots) ≤ length bytes
+      go-room : (numbersOf (reply .answer) .number ≡ 8 → ⊥) → (b : Bool) → isImage bytes ≡ b → imageSize (reply .stream .setup .slots) ≤ length bytes
       go-room not-8 true e = room e
       go-room not-8 false e = absurd (not-8 (eight e))
 
   -- and what it gives
   module _ (out : List ℕ) where
-    from-off : sound (recordIn bytes) ≡ false → madeFromC c bytes out ≡ notAnImage bytes (lentTo c) out
-    unfolding madeFromC fromC isImage
+    from-off : isImage bytes ≡ false → madeFromC c bytes out ≡ notAnImage bytes (lentTo c) out
+    unfolding madeFromC fromC
     from-off off = rw off
 
-    answered-off : sound (recordIn bytes) ≡ false → answeredBy reply bytes out ≡ notAnImage bytes [] out
+    answered-off : isImage bytes ≡ false → answeredBy reply bytes out ≡ notAnImage bytes [] out
     unfolding answeredBy
     answered-off off = rw (eq-eqb _ 8 (eight off))
 
-    from-on : sound (recordIn bytes) ≡ true → madeFromC c bytes out ≡ told (next .answer) (store 0 (ledgerImage (recordIn bytes .setup) (next .ledger)) bytes) (next .lent) out
-    unfolding madeFromC fromC isImage next
-    from-on ok = rw (ok, match)
+    from-on : isImage bytes ≡ true → madeFromC c bytes out ≡ told (next .answer) (store 0 (ledgerImage (recordIn bytes .setup) (next .ledger)) bytes) (next .lent) out
+    unfolding madeFromC fromC next
+    from-on on = rw on
 
-    answered-on : sound (recordIn bytes) ≡ true → answeredBy reply bytes out ≡ told (next .answer) (store 0 (ledgerImage (recordIn bytes .setup) (next .ledger)) bytes) [] out
+    answered-on : isImage bytes ≡ true → answeredBy reply bytes out ≡ told (next .answer) (store 0 (ledgerImage (recordIn bytes .setup) (next .ledger)) bytes) [] out
     unfolding answeredBy
-    answered-on ok =
-        rw (ne-eqb _ 8 (not-eight ok))
-        (ap (λ (b : List ℕ). told (reply .answer) (store 0 b bytes) [] out) (shows ok)
-        ∙ same-told (reply .answer) (next .answer) (store 0 (ledgerImage (recordIn bytes .setup) (next .ledger)) bytes) [] out (answers ok))
+    answered-on on =
+        rw (ne-eqb _ 8 (not-eight on))
+        (ap (λ (b : List ℕ). told (reply .answer) (store 0 b bytes) [] out) (shows on)
+        ∙ same-told (reply .answer) (next .answer) (store 0 (ledgerImage (recordIn bytes .setup) (next .ledger)) bytes) [] out (answers on))
 
   -- the same, but for what was lent
   moved : (a : Answer) (i l out : List ℕ) (f g : FromC) (n : ℕ) (image' out' : List ℕ) → f ≡ told a i [] out → g ≡ told a i l out → left ≡ l
@@ -240,8 +219,8 @@ module _ (c : Call) (bytes : List ℕ) (r : Read) (is : Given bytes r) (on : not
 
   pub finished : (out : List ℕ) (n : ℕ) (image' out' : List ℕ) → Returned (answeredBy reply bytes out) n image' [] out' → Returned (madeFromC c bytes out) n image' left out'
   unfolding notAnImage
-  finished out n image' out' t = go (sound (recordIn bytes)) refl
+  finished out n image' out' t = go (isImage bytes) refl
     where
-      go : (b : Bool) → sound (recordIn bytes) ≡ b → Returned (madeFromC c bytes out) n image' left out'
+      go : (b : Bool) → isImage bytes ≡ b → Returned (madeFromC c bytes out) n image' left out'
       go true e = moved _ _ _ out _ _ n image' out' (answered-on out e) (from-on out e) (leaves e) t
       go false e = moved _ _ _ out _ _ n image' out' (answered-off out e) (from-off out e) (kept-lent e) t

@@ -38,12 +38,6 @@ ghost use Rattle.image.specs.Reading.{setupAt, statesAt, queueAt, counte
 ghost use Rattle.image.specs.Reading.{handFrom, statsFrom};
 ghost use Rattle.image.specs.Reading.{setupIn, handIn, flagsIn, queueIn, ringIn, recordIn, matches};
 
-// The record that stands in the bytes, and whether they begin with its image.
-pub struct Read {
-    pub ok: bool,
-    pub stream: Stream,
-}
-
 // The policy of a number; any that names none is read as Continue.
 pub fn policy_from(number: u64) -> Underrun
     ensures { λ r. ⌜ r ≡ policyFrom number ⌝ }
@@ -218,60 +212,45 @@ fn head_matches(image: &[u8], setup: Setup, used: usize, hand: Hand, flags: Flag
     has_words(image, SETUP_AT, 8, &numbers)
 }
 
-// Internal: the bytes hold no image.
-fn unread() -> Read
-    ensures { λ r. ⌜ (r .ok ≡ false) × (r .stream ≡ noStream) ⌝ }
-{
-    Read {
-        ok: false,
-        stream: no_stream(),
-    }
-}
-
 // Internal: reads the parts and compares each with the image of what was read. Counters of any bytes are an image's.
-fn read_parts(image: &[u8], n: usize) -> Read
+fn read_parts(image: &[u8], n: usize) -> Stream
     requires { ⌜ Roomy n (now image) ⌝ }
-    ensures { λ r.
-        ⌜ (r .ok ≡ matches (now (image .entry)))
-        × (r .stream ≡ cond (r .ok) (recordIn (now (image .entry))) noStream) ⌝ }
+    ensures { λ r. ⌜ r ≡ cond (matches (now (image .entry))) (recordIn (now (image .entry))) noStream ⌝ }
 {
     let setup = read_setup(image);
     let hand = read_hand(image);
     let flags = read_flags(image);
     let used = read_used(image, n);
     if !head_matches(image, setup, used, hand, flags) {
-        return unread();
+        return no_stream();
     }
     if !states_match(image, n) {
-        return unread();
+        return no_stream();
     }
     if !queue_matches(image, n, used) {
-        return unread();
+        return no_stream();
     }
     let ring = read_ring(image, n, used);
     let stats = read_stats(image, n);
-    Read {
-        ok: true,
-        stream: Stream::new(setup, ring, hand, flags, stats),
-    }
+    Stream::new(setup, ring, hand, flags, stats)
 }
 
-// Internal: the record that stands in the bytes, where they begin with its image. Whether that record is sound is the
-// call's own test.
-pub fn read_image(image: &[u8]) -> Read
+// Internal: the record that stands in the bytes, where they begin with its image; else one that 8 refuses. Whether the
+// record that stands there is sound is the call's own test.
+pub fn read_image(image: &[u8]) -> Stream
     ensures { λ r.
-        ⌜ (r .ok ≡ (leb (setupIn (now (image .entry)) .slots) 256 && matches (now (image .entry))))
-        × (r .stream ≡ cond (r .ok) (recordIn (now (image .entry))) noStream) ⌝ }
+        ⌜ r ≡ cond (leb (setupIn (now (image .entry)) .slots) 256 && matches (now (image .entry)))
+        (recordIn (now (image .entry))) noStream ⌝ }
 {
     if image.len() < 192 {
-        return unread();
+        return no_stream();
     }
     let n = get_u64(image, SETUP_AT) as usize;
     if 256 < n {
-        return unread();
+        return no_stream();
     }
     if image.len() < size(n) {
-        return unread();
+        return no_stream();
     }
     read_parts(image, n)
 }

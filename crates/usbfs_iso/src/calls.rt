@@ -1,8 +1,8 @@
 // The ten calls. Each reads the record from its image, makes the call by value and stores the record's image again.
+// Bytes that are no image are read as a record that the call refuses with 8, and C is told 31.
 use c_lists::commit_listed;
 use c_lists::stop_listed;
 use from_c::answered;
-use from_c::not_an_image;
 use image::read_image;
 use stream::Reaping;
 use stream::Submission;
@@ -20,11 +20,7 @@ pub extern "C" fn usbfs_iso_turn(image: &mut [u8], block: &mut [u8], out: &mut [
         ⌜ Returned (madeFromC (Call.turn (now (block .entry))) (now (image .entry)) (now (out .entry))) r
         (now (image .exit)) (now (block .exit)) (now (out .exit)) ⌝ }
 {
-    let read = read_image(image);
-    if !read.ok {
-        return not_an_image(out);
-    }
-    let reply = turn::turn(read.stream, block);
+    let reply = turn::turn(read_image(image), block);
     answered(reply, image, out)
 }
 
@@ -40,11 +36,7 @@ pub extern "C" fn usbfs_iso_commit(
         ⌜ Returned (madeFromC (Call.commit bytes (now (block .entry))) (now (image .entry)) (now (out .entry))) r
         (now (image .exit)) (now (block .exit)) (now (out .exit)) ⌝ }
 {
-    let read = read_image(image);
-    if !read.ok {
-        return not_an_image(out);
-    }
-    let reply = commit::commit(read.stream, bytes as usize, block);
+    let reply = commit::commit(read_image(image), bytes as usize, block);
     answered(reply, image, out)
 }
 
@@ -55,11 +47,7 @@ pub extern "C" fn usbfs_iso_commit_full(image: &mut [u8], block: &mut [u8], out:
         ⌜ Returned (madeFromC (Call.commitFull (now (block .entry))) (now (image .entry)) (now (out .entry))) r
         (now (image .exit)) (now (block .exit)) (now (out .exit)) ⌝ }
 {
-    let read = read_image(image);
-    if !read.ok {
-        return not_an_image(out);
-    }
-    let reply = commit::commit_full(read.stream, block);
+    let reply = commit::commit_full(read_image(image), block);
     answered(reply, image, out)
 }
 
@@ -76,11 +64,7 @@ pub extern "C" fn usbfs_iso_commit_packets(
         (now (image .entry)) (now (out .entry))) r
         (now (image .exit)) (now (block .exit)) (now (out .exit)) ⌝ }
 {
-    let read = read_image(image);
-    if !read.ok {
-        return not_an_image(out);
-    }
-    let reply = commit_listed(read.stream, lengths, block);
+    let reply = commit_listed(read_image(image), lengths, block);
     answered(reply, image, out)
 }
 
@@ -96,11 +80,7 @@ pub extern "C" fn usbfs_iso_submitted_accepted(
         (now (image .entry)) (now (out .entry))) r
         (now (image .exit)) (now (block .exit)) (now (out .exit)) ⌝ }
 {
-    let read = read_image(image);
-    if !read.ok {
-        return not_an_image(out);
-    }
-    let reply = submitted::submitted(read.stream, Submission::Accepted, block);
+    let reply = submitted::submitted(read_image(image), Submission::Accepted, block);
     answered(reply, image, out)
 }
 
@@ -117,11 +97,7 @@ pub extern "C" fn usbfs_iso_submitted_errno(
         (now (image .entry)) (now (out .entry))) r
         (now (image .exit)) (now (block .exit)) (now (out .exit)) ⌝ }
 {
-    let read = read_image(image);
-    if !read.ok {
-        return not_an_image(out);
-    }
-    let reply = submitted::submitted(read.stream, Submission::Errno(error), block);
+    let reply = submitted::submitted(read_image(image), Submission::Errno(error), block);
     answered(reply, image, out)
 }
 
@@ -138,11 +114,7 @@ pub extern "C" fn usbfs_iso_reaped_errno(
         (now (image .entry)) (now (out .entry))) r
         (now (image .exit)) (now (block .entry)) (now (out .exit)) ⌝ }
 {
-    let read = read_image(image);
-    if !read.ok {
-        return not_an_image(out);
-    }
-    let reply = reaped::reaped(read.stream, Reaping::Errno(error), block);
+    let reply = reaped::reaped(read_image(image), Reaping::Errno(error), block);
     answered(reply, image, out)
 }
 
@@ -159,11 +131,7 @@ pub extern "C" fn usbfs_iso_reaped_address(
         (now (image .entry)) (now (out .entry))) r
         (now (image .exit)) (now (block .entry)) (now (out .exit)) ⌝ }
 {
-    let read = read_image(image);
-    if !read.ok {
-        return not_an_image(out);
-    }
-    let reply = reaped::reaped(read.stream, Reaping::Address(address as usize), block);
+    let reply = reaped::reaped(read_image(image), Reaping::Address(address as usize), block);
     answered(reply, image, out)
 }
 
@@ -174,11 +142,7 @@ pub extern "C" fn usbfs_iso_give_back(image: &mut [u8], out: &mut [u8]) -> u32
         ⌜ Returned (madeFromC Call.giveBack (now (image .entry)) (now (out .entry))) r
         (now (image .exit)) [] (now (out .exit)) ⌝ }
 {
-    let read = read_image(image);
-    if !read.ok {
-        return not_an_image(out);
-    }
-    let reply = control::give_back(read.stream);
+    let reply = control::give_back(read_image(image));
     answered(reply, image, out)
 }
 
@@ -189,11 +153,7 @@ pub extern "C" fn usbfs_iso_start(image: &mut [u8], out: &mut [u8]) -> u32
         ⌜ Returned (madeFromC Call.start (now (image .entry)) (now (out .entry))) r
         (now (image .exit)) [] (now (out .exit)) ⌝ }
 {
-    let read = read_image(image);
-    if !read.ok {
-        return not_an_image(out);
-    }
-    let reply = control::start(read.stream);
+    let reply = control::start(read_image(image));
     answered(reply, image, out)
 }
 
@@ -204,11 +164,7 @@ pub extern "C" fn usbfs_iso_stop(image: &mut [u8], list: &mut [u8], out: &mut [u
         ⌜ Returned (madeFromC (Call.stop (now (list .entry))) (now (image .entry)) (now (out .entry))) r
         (now (image .exit)) (now (list .exit)) (now (out .exit)) ⌝ }
 {
-    let read = read_image(image);
-    if !read.ok {
-        return not_an_image(out);
-    }
-    let reply = stop_listed(read.stream, list);
+    let reply = stop_listed(read_image(image), list);
     answered(reply, image, out)
 }
 
@@ -219,10 +175,6 @@ pub extern "C" fn usbfs_iso_finish(image: &mut [u8], out: &mut [u8]) -> u32
         ⌜ Returned (madeFromC Call.finish (now (image .entry)) (now (out .entry))) r
         (now (image .exit)) [] (now (out .exit)) ⌝ }
 {
-    let read = read_image(image);
-    if !read.ok {
-        return not_an_image(out);
-    }
-    let reply = control::finish(read.stream);
+    let reply = control::finish(read_image(image));
     answered(reply, image, out)
 }

@@ -14,7 +14,6 @@ use Rattle.ring.specs.Counts.{table}
 use Rattle.ring.proofs.Truth.{refuted}
 use Rattle.stream.specs.declared.Stream.{Stream}
 use Rattle.opening.specs.Opened.{noStream}
-use Rattle.image.specs.declared.read.Read.{Read}
 use Rattle.encoding.specs.Words.{numbersAt}
 use Rattle.image.specs.Image.{image}
 use Rattle.image.specs.Reading.{setupAt, imageSize, setupIn, recordIn, matches, Roomy}
@@ -34,14 +33,15 @@ slots-at : (bytes : List ℕ) → field setupAt 8 bytes ≡ setupIn bytes .slots
 unfolding setupIn setupFrom numbersAt table
 slots-at bytes = refl
 
-abbrev Reading : List ℕ → Bool → Stream → Type 0
-Reading bytes ok s = (ok ≡ (leb (setupIn bytes .slots) 256 && matches bytes)) × (s ≡ cond ok (recordIn bytes) noStream)
+-- what reading gives
+abbrev Given : List ℕ → Stream → Type 0
+Given bytes s = s ≡ cond (leb (setupIn bytes .slots) 256 && matches bytes) (recordIn bytes) noStream
 
-off : (bytes : List ℕ) (r : Read) → (r .ok ≡ false) × (r .stream ≡ noStream) → matches bytes ≡ false → Reading bytes (r .ok) (r .stream)
-off bytes r e m = (e .0 ∙ sym (ap (λ (t : Bool). leb (setupIn bytes .slots) 256 && t) m ∙ and-false (leb (setupIn bytes .slots) 256)), e .1 ∙ rw (e .0))
+off : (bytes : List ℕ) (s : Stream) → s ≡ noStream → matches bytes ≡ false → Given bytes s
+off bytes s e m = e ∙ rw (m, and-false (leb (setupIn bytes .slots) 256))
 
-many : (bytes : List ℕ) (r : Read) (n : ℕ) → (r .ok ≡ false) × (r .stream ≡ noStream) → n ≡ field setupAt 8 bytes → 256 < n → Reading bytes (r .ok) (r .stream)
-many bytes r n e is h = (e .0 ∙ rw (lt-leb (setupIn bytes .slots) 256 (rw (← slots-at bytes, ← is) h)), e .1 ∙ rw (e .0))
+many : (bytes : List ℕ) (s : Stream) (n : ℕ) → s ≡ noStream → n ≡ field setupAt 8 bytes → 256 < n → Given bytes s
+many bytes s n e is h = e ∙ rw (lt-leb (setupIn bytes .slots) 256 (rw (← slots-at bytes, ← is) h))
 
 roomy : (bytes : List ℕ) (n size : ℕ) → n ≡ field setupAt 8 bytes → n ≤ 256 → size ≡ imageSize n → size ≤ length bytes → Roomy n bytes
 roomy bytes n size is few e h = record { slots = is ∙ slots-at bytes; few = few; long = omega arith }
@@ -50,13 +50,13 @@ unroomy : (bytes : List ℕ) (n size : ℕ) → n ≡ field setupAt 8 bytes → 
 unroomy bytes n size is e h = rw (← slots-at bytes, ← is, ← e) h
 
 returns : tie.Need-returns
-returns c = off _ _ (c .unread .ensures) (short _ (omega arith))
+returns c = off _ _ (c .no-stream .ensures) (short _ (omega arith))
 
 returns-2 : tie.Need-returns-2
-returns-2 c = many _ _ _ (c .unread2 .ensures) (c .before .before .get-u64 .ensures) (c .before .if2 .taken)
+returns-2 c = many _ _ _ (c .no-stream2 .ensures) (c .before .before .get-u64 .ensures) (c .before .if2 .taken)
 
 returns-3 : tie.Need-returns-3
-returns-3 c = off _ _ (c .unread3 .ensures) (short _ (unroomy _ _ _ (c .before .before .before .before .get-u64 .ensures) (c .before .before .size .ensures) (c .before .if3 .taken)))
+returns-3 c = off _ _ (c .no-stream3 .ensures) (short _ (unroomy _ _ _ (c .before .before .before .before .get-u64 .ensures) (c .before .before .size .ensures) (c .before .if3 .taken)))
 
 ready : (c : tie.Else3) → Roomy (c .before .before .before .get-u64 .result) (c .before .before .before .before .before .before .args .image .now)
 ready c = roomy _ _ _ (c .before .before .before .get-u64 .ensures) (c .before .before .if2 .left) (c .before .size .ensures) (c .if3 .left)
@@ -64,8 +64,8 @@ ready c = roomy _ _ _ (c .before .before .before .get-u64 .ensures) (c .before .
 read-parts-requires : tie.Need-read-parts-requires
 read-parts-requires c κs = ready c
 
-few : (bytes : List ℕ) (n : ℕ) (r : Read) → Roomy n bytes → (r .ok ≡ matches bytes) × (r .stream ≡ cond (r .ok) (recordIn bytes) noStream) → Reading bytes (r .ok) (r .stream)
-few bytes n r room e = (e .0 ∙ sym (ap (λ (t : Bool). t && matches bytes) (le-leb (setupIn bytes .slots) 256 (rw (← room .slots) (room .few)))), e .1)
+few : (bytes : List ℕ) (n : ℕ) (s : Stream) → Roomy n bytes → s ≡ cond (matches bytes) (recordIn bytes) noStream → Given bytes s
+few bytes n s room e = e ∙ rw (le-leb (setupIn bytes .slots) 256 (rw (← room .slots) (room .few)))
 
 returns-4 : tie.Need-returns-4
 returns-4 c = few _ _ _ (ready (c .before)) (c .read-parts .ensures)

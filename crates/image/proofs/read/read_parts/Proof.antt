@@ -14,7 +14,6 @@ use Rattle.ring.specs.Counts.{table}
 use Rattle.encoding.specs.Codes.{stateNumber, stateFrom}
 use Rattle.stream.specs.declared.Stream.{Stream}
 use Rattle.opening.specs.Opened.{noStream}
-use Rattle.image.specs.declared.read.Read.{Read}
 use Rattle.encoding.specs.Words.{words, numbersAt, places, begins}
 use Rattle.image.specs.Reading.{statesAt, queueAt, countersAt, statsFrom, queueIn, ringIn, recordIn, matches}
 use Rattle.encoding.proofs.Laid.{Bytes}
@@ -54,11 +53,8 @@ decided c =
           (c .head-matches .ensures);
     }
 
-abbrev Reading : List ℕ → Bool → Stream → Type 0
-Reading bytes ok s = (ok ≡ matches bytes) × (s ≡ cond ok (recordIn bytes) noStream)
-
-off : (bytes : List ℕ) (r : Read) → (r .ok ≡ false) × (r .stream ≡ noStream) → matches bytes ≡ false → Reading bytes (r .ok) (r .stream)
-off bytes r e m = (e .0 ∙ sym m, e .1 ∙ rw (e .0))
+off : (bytes : List ℕ) (s : Stream) → s ≡ noStream → matches bytes ≡ false → s ≡ cond (matches bytes) (recordIn bytes) noStream
+off bytes s e m = e ∙ rw m
 
 -- header or setup differ; the states do; the queue does; none does
 head-off : {m h a b : Bool} → Decided m h a b → not h ≡ true → m ≡ false
@@ -71,12 +67,12 @@ queue-left : {m h a b : Bool} → Decided m h a b → not h ≡ false → (st : 
 queue-left {m} {h} d on st e on' q f = d .is ∙ rw (not-false h on, ← e, not-false st on', ← f)
 
 returns : tie.Need-returns
-returns c = off _ _ (c .unread .ensures) (head-off (decided (c .before .before)) (c .before .if1 .taken))
+returns c = off _ _ (c .no-stream .ensures) (head-off (decided (c .before .before)) (c .before .if1 .taken))
 
 returns-2 : tie.Need-returns-2
 returns-2 c =
     let e = c .before .before .before in
-    off _ _ (c .unread2 .ensures) (states-off (decided (e .before)) (e .if1 .left) _ (c .before .before .states-match .ensures) (c .before .if2 .taken))
+    off _ _ (c .no-stream2 .ensures) (states-off (decided (e .before)) (e .if1 .left) _ (c .before .before .states-match .ensures) (c .before .if2 .taken))
 
 -- the queue decides
 queue : (c : tie.After-queue-matches) → matches (c .before .before .before .before .before .before .before .before .before .before .args .image .now) ≡ c .queue-matches .result
@@ -85,9 +81,12 @@ queue c =
     queue-left (decided (e .before)) (e .if1 .left) _ (c .before .before .states-match .ensures) (c .before .if2 .left) _ (c .queue-matches .ensures)
 
 returns-3 : tie.Need-returns-3
-returns-3 c = off _ _ (c .unread3 .ensures) (queue (c .before .before) ∙ not-true _ (c .before .if3 .taken))
+returns-3 c = off _ _ (c .no-stream3 .ensures) (queue (c .before .before) ∙ not-true _ (c .before .if3 .taken))
 
 -- what was read is the record
+on : (bytes : List ℕ) (s : Stream) → s ≡ recordIn bytes → matches bytes ≡ true → s ≡ cond (matches bytes) (recordIn bytes) noStream
+on bytes s e m = e ∙ rw m
+
 record-is : tie.Need-returns-4
 unfolding recordIn
 record-is c =
@@ -101,10 +100,9 @@ record-is c =
     let ring = c .before .before .read-ring .ensures ∙ ap (λ (k : ℕ). ringIn k bytes) n in
     let hand = u .before .before .read-hand .ensures in
     let flags = u .before .read-flags .ensures in
-    let stats = c .before .read-stats .ensures ∙ ap (λ (k : ℕ). statsFrom (numbersAt 8 8 (countersAt k) bytes)) n in (
-      sym (queue q ∙ not-false _ (l .if3 .left)),
-      c .new .ensures ∙ (λ i. record { setup = setup i; ring = ring i; hand = hand i; flags = flags i; stats = stats i }),
-    )
+    let stats = c .before .read-stats .ensures ∙ ap (λ (k : ℕ). statsFrom (numbersAt 8 8 (countersAt k) bytes)) n in
+    on bytes _ (c .new .ensures ∙ (λ i. record { setup = setup i; ring = ring i; hand = hand i; flags = flags i; stats = stats i }))
+    (queue q ∙ not-false _ (l .if3 .left))
 
 pub read-parts-spec : {M : Type 1} → statement M
 read-parts-spec =

@@ -4,7 +4,7 @@ use borrow.Author.Needs.{needs}
 use Rattle.stream.specs.declared.Reaping.{Reaping}
 use Rattle.ledger.specs.Calls.{Call, lentTo}
 use Rattle.from_c.specs.Calls.{ruleFromC}
-use Rattle.from_c.proofs.Answering.{told-called, refused, writable, finished}
+use Rattle.from_c.proofs.Answering.{told-called, writable, finished}
 use Rattle.usbfs_iso.proofs.calls.usbfs_iso_reaped_address.Statement.{statement}
 use Rattle.usbfs_iso.proofs.calls.usbfs_iso_reaped_address.Tie as tie
 
@@ -12,31 +12,20 @@ use Rattle.usbfs_iso.proofs.calls.usbfs_iso_reaped_address.Tie as tie
 the-call : tie.Start → Call
 the-call start = Call.reaped (Reaping.Address (start .args .address)) (start .args .block .now)
 
-returns : tie.Need-returns
-unfolding the-call lentTo
-returns c =
-    let n = c .before .before in
-    let t = n .before .before in
-    let r = t .before .before in
-    refused (the-call (r .before .before .before .before .before)) _ _ (r .read-image .ensures) (t .if1 .taken) _ _ _ (n .not-an-image .ensures)
-
 answered-requires : tie.Need-answered-requires
 unfolding the-call ruleFromC lentTo
 answered-requires c κs =
     let k = c .before .before in
-    let e = k .before in
-    writable (the-call (k .before .before .before .before .before .before .before .before)) _ _ (e .before .before .read-image .ensures) (e .if1 .left) _ _
-    (told-called _ refl _ _ _ (k .reaped .ensures))
+    let r = k .before in
+    writable (the-call (r .before .before .before .before .before)) _ _ (r .read-image .ensures) _ _ (told-called _ refl _ _ _ (k .reaped .ensures))
 
-returns-2 : tie.Need-returns-2
+returns : tie.Need-returns
 unfolding the-call ruleFromC lentTo
-returns-2 c =
+returns c =
     let a = c .before .before .before .before in
     let k = a .before .before .before in
-    let e = k .before in
-    finished (the-call (k .before .before .before .before .before .before .before .before)) _ _ (e .before .before .read-image .ensures) (e .if1 .left) _ _
-    (told-called _ refl _ _ _ (k .reaped .ensures))
-    _ _ _ _ (a .answered .ensures)
+    let r = k .before in
+    finished (the-call (r .before .before .before .before .before)) _ _ (r .read-image .ensures) _ _ (told-called _ refl _ _ _ (k .reaped .ensures)) _ _ _ _ (a .answered .ensures)
 
 pub usbfs-iso-reaped-address-spec : {M : Type 1} → statement M
 usbfs-iso-reaped-address-spec =
@@ -44,11 +33,7 @@ usbfs-iso-reaped-address-spec =
     (tie.spec
     (λ c κs. search needs)
     (λ c κs. search needs)
-    (λ c. search needs)
-    (λ c. search needs)
-    returns
-    (λ c κs. search needs)
     answered-requires
     (λ c. search needs)
     (λ c. search needs)
-    returns-2)
+    returns)
