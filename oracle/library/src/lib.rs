@@ -33,7 +33,7 @@ impl Side for Library {
         self.image.resize(IMAGE_ROOM as usize, FILLED);
         self.image_len = o.image_len as usize;
         let mut out = Out([UNUSED; 9]);
-        // SAFETY: each pointer has the bytes of the length behind it behind it, and they are apart.
+        // SAFETY: each pointer is to as many bytes as the length after it says, and no two of them overlap.
         let returned = unsafe {
             c::usbfs_iso_open(
                 o.n,
