@@ -1,10 +1,14 @@
-# The two commands of README.md, the comparison with the Rust (docs/RUNS.md), the benchmark (docs/PERFORMANCE.md), and
-# the library for C: `make lib` proves it and builds it in build/, `make install` puts it and its header below DESTDIR
-# and PREFIX.
-.PHONY: run test compare bench lib install
+# The two commands of README.md, the comparison with the Rust (docs/RUNS.md), the benchmark (docs/PERFORMANCE.md), the
+# player on a real kernel (docs/KERNEL.md), and the library for C: `make lib` proves it and builds it in build/, `make
+# install` puts it and its header below DESTDIR and PREFIX.
+.PHONY: run test compare bench kernel lib install
 
-run: build/replay
-	@build/replay --screen <examples/session.runs
+# On a simulated loudspeaker, or with DEVICE=BUS:DEV (of `build/player --list`) and maybe WAV= on a real one.
+DEVICE =
+WAV =
+
+run: build/player
+	@examples/run '$(DEVICE)' '$(WAV)'
 
 test:
 	@tests/all
@@ -18,6 +22,9 @@ compare: build/libusbfs_iso.a
 bench: build/libusbfs_iso.a
 	@tests/bench
 
+kernel: build/libusbfs_iso.a
+	@tests/kernel/run
+
 lib: build/libusbfs_iso.a
 
 # Proved again when a source is newer.
@@ -26,6 +33,9 @@ build/libusbfs_iso.a: crates.txt usbfs_iso.pc.in $(shell find crates -name '*.rt
 
 build/replay: $(wildcard examples/replay/*) include/usbfs_iso.h build/libusbfs_iso.a
 	@$(CC) -std=c11 -O2 -Wall -Wextra -I include examples/replay/*.c build/libusbfs_iso.a -o build/replay
+
+build/player: $(wildcard examples/*.c examples/*.h) include/usbfs_iso.h build/libusbfs_iso.a
+	@$(CC) -std=gnu11 -O2 -Wall -Wextra -I include examples/*.c build/libusbfs_iso.a -o build/player
 
 PREFIX = /usr/local
 DESTDIR =

@@ -1,0 +1,37 @@
+/* The simulated usbfs: its tricks, and what it really did, for tests to hold the player's word against. */
+#ifndef SIMULATED_H
+#define SIMULATED_H
+
+#include <stdbool.h>
+#include <stddef.h>
+#include <stdint.h>
+
+enum { MOST_TRICKS = 64 };
+enum trick_kind { SHUFFLE, LATE, SHORT, LOST, FLAWED, REFUSE, INTERRUPT, PULL, GONE };
+
+struct trick {
+    enum trick_kind kind;
+    int64_t at, number;
+};
+
+struct tricks {
+    struct trick list[MOST_TRICKS];
+    int count;
+    bool is_real_time;
+};
+
+bool read_tricks(const char *script, struct tricks *tricks);
+uint64_t next_random(uint64_t *state);
+
+struct simulated_truth {
+    uint8_t *heard;       /* every byte that the loudspeaker played, in order */
+    size_t played;        /* how many these are */
+    size_t *starts;       /* how many had been played before each packet that it took */
+    size_t packets;
+    size_t out;           /* URBs that were accepted and not reaped */
+    size_t last_returned; /* bytes played of the URB that was reaped last */
+};
+
+extern struct simulated_truth simulated_truth;
+
+#endif

@@ -1,0 +1,95 @@
+/*
+ * Stands between the player and the library (the linker's --wrap), and checks the image after every call: submitted =
+ * completed + discarded + out, and every slot is out, in the queue or in hand.
+ */
+#include "books.h"
+#include <stdio.h>
+#include <string.h>
+#include <usbfs_iso.h>
+
+enum { QUEUE_LENGTH_AT = 4, HAND_KIND_AT = 88, STATES_AT = 128, IN_FLIGHT = 2 };
+
+struct books books;
+
+static uint64_t number_at(const void *image, size_t at, size_t size)
+{
+    uint64_t number = 0;
+    memcpy(&number, (const unsigned char *)image + at, size);
+    return number;
+}
+
+void books_check(int holds, const char *what)
+{
+    books.wrong += !holds;
+    if (!holds)
+        fprintf(stderr, "books: after call %lu: not so: %s\n", (unsigned long)books.calls, what);
+}
+
+static void check(const void *image)
+{
+    uint64_t slots = number_at(image, 0, 4), submitted, completed;
+    books.calls++;
+    books.out = 0;
+    for (uint64_t k = 0; k < slots; k++)
+        books.out += number_at(image, STATES_AT + k, 1) >= IN_FLIGHT;
+    submitted = number_at(image, USBFS_ISO_COUNTER_AT(slots, USBFS_ISO_COUNTER_URBS_SUBMITTED), 8);
+    completed = number_at(image, USBFS_ISO_COUNTER_AT(slots, USBFS_ISO_COUNTER_URBS_COMPLETED), 8);
+    books.transferred = number_at(image, USBFS_ISO_COUNTER_AT(slots, USBFS_ISO_COUNTER_BYTES_TRANSFERRED), 8);
+    books_check(submitted == completed + books.discarded + books.out, "submitted = completed + discarded + out");
+    books_check(slots == books.out + number_at(image, QUEUE_LENGTH_AT, 4) + (number_at(image, HAND_KIND_AT, 8) != 0),
+                "every slot is out, in the queue or in hand");
+    if (books.checked != NULL)
+        books.checked();
+}
+
+/* The library's function under its own name, and the one that the player gets. */
+#define CHECKED(name, parameters, arguments)                                                                          \
+    uint32_t __real_##name parameters;                                                                                \
+    uint32_t __wrap_##name parameters;                                                                                \
+    uint32_t __wrap_##name parameters                                                                                 \
+    {                                                                                                                 \
+        uint32_t refusal = __real_##name arguments;                                                                   \
+        check(image);                                                                                                 \
+        return refusal;                                                                                               \
+    }
+
+CHECKED(usbfs_iso_turn, (void *image, size_t image_len, void *block, size_t block_len, void *out, size_t out_len),
+        (image, image_len, block, block_len, out, out_len))
+CHECKED(usbfs_iso_commit_packets,
+        (void *image, size_t image_len, const void *lengths, size_t lengths_len, void *block, size_t block_len,
+         void *out, size_t out_len),
+        (image, image_len, lengths, lengths_len, block, block_len, out, out_len))
+CHECKED(usbfs_iso_submitted_accepted,
+        (void *image, size_t image_len, void *block, size_t block_len, void *out, size_t out_len),
+        (image, image_len, block, block_len, out, out_len))
+CHECKED(usbfs_iso_submitted_errno,
+        (void *image, size_t image_len, uint32_t error, void *block, size_t block_len, void *out, size_t out_len),
+        (image, image_len, error, block, block_len, out, out_len))
+CHECKED(usbfs_iso_reaped_errno,
+        (void *image, size_t image_len, uint32_t error, const void *block, size_t block_len, void *out,
+         size_t out_len),
+        (image, image_len, error, block, block_len, out, out_len))
+CHECKED(usbfs_iso_start, (void *image, size_t image_len, void *out, size_t out_len), (image, image_len, out, out_len))
+CHECKED(usbfs_iso_stop, (void *image, size_t image_len, void *list, size_t list_len, void *out, size_t out_len),
+        (image, image_len, list, list_len, out, out_len))
+CHECKED(usbfs_iso_finish, (void *image, size_t image_len, void *out, size_t out_len), (image, image_len, out, out_len))
+
+/* A URB that came back: with Completion, or with 13, which counts it. */
+uint32_t __real_usbfs_iso_reaped_address(void *image, size_t image_len, uint64_t address, const void *block,
+                                         size_t block_len, void *out, size_t out_len);
+uint32_t __wrap_usbfs_iso_reaped_address(void *image, size_t image_len, uint64_t address, const void *block,
+                                         size_t block_len, void *out, size_t out_len);
+uint32_t __wrap_usbfs_iso_reaped_address(void *image, size_t image_len, uint64_t address, const void *block,
+                                         size_t block_len, void *out, size_t out_len)
+{
+    uint64_t numbers[USBFS_ISO_OUT_NUMBERS] = {0};
+    uint32_t refusal = __real_usbfs_iso_reaped_address(image, image_len, address, block, block_len, out, out_len);
+    memcpy(numbers, out, out_len < sizeof numbers ? out_len : sizeof numbers);
+    int is_discarded = numbers[USBFS_ISO_OUT_KIND] == USBFS_ISO_KIND_COMPLETION && numbers[USBFS_ISO_OUT_DISCARDED];
+    books_check(refusal == 0 || refusal == USBFS_ISO_DISCONNECTED, "a URB that came back is one of the ring's");
+    books.discarded += (uint64_t)is_discarded;
+    if (books.returned != NULL)
+        books.returned(is_discarded);
+    check(image);
+    return refusal;
+}

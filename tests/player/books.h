@@ -1,0 +1,22 @@
+/* The library's books, checked after every call that the player makes (books.c). */
+#ifndef BOOKS_H
+#define BOOKS_H
+
+#include <stddef.h>
+#include <stdint.h>
+
+struct books {
+    uint64_t calls, wrong;        /* calls checked; checks that failed */
+    uint64_t discarded;           /* URBs that came back discarded */
+    uint64_t out;                 /* slots out, by the image */
+    uint64_t transferred;         /* the image's counter of bytes transferred */
+    void (*returned)(int is_discarded); /* what else is to be done when a URB came back, or NULL */
+    void (*checked)(void);              /* what else is to be checked after a call, or NULL */
+};
+
+extern struct books books;
+
+/* Counts a check that failed, and says so on standard error. */
+void books_check(int holds, const char *what);
+
+#endif
