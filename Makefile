@@ -22,7 +22,7 @@ compare: build/libusbfs_iso.a
 bench: build/libusbfs_iso.a
 	@tests/bench
 
-kernel: build/libusbfs_iso.a
+kernel:
 	@tests/kernel/run
 
 lib: build/libusbfs_iso.a

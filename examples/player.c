@@ -39,6 +39,7 @@ struct player {
     uint64_t out[USBFS_ISO_OUT_NUMBERS]; /* what the last call answered */
     size_t filled, sent;          /* bytes of sound in the slot in hand; bytes that the kernel has taken */
     uint64_t packets_sent;
+    uint64_t first_packet[MOST_SLOTS]; /* of what each slot was sent with last */
     uint64_t played;              /* bytes of sound that were really played */
     int64_t last_back;            /* when a buffer came back last */
     int64_t next_counts, next_line;
@@ -182,8 +183,9 @@ static uint32_t submit(struct player *p, uint64_t slot)
     int error = p->usbfs->submit(p->usbfs, urb_of(p, slot));
     if (error != 0)
         return usbfs_iso_submitted_errno(IMAGE(p), (uint32_t)error, BLOCK(p), OUT(p));
-    p->sent += p->filled;
+    p->first_packet[slot] = p->packets_sent;
     p->packets_sent += p->packets;
+    p->sent += p->filled;
     return usbfs_iso_submitted_accepted(IMAGE(p), BLOCK(p), OUT(p));
 }
 
@@ -231,6 +233,22 @@ static const char *play(struct player *p)
     return refusal == 0 ? "it was stopped" : text_of(refusal);
 }
 
+/*
+ * Discards the slots of the list, what was sent last first: else what comes later would be played behind a gap. A URB
+ * that is done, or whose device is gone, cannot be discarded: it comes back all the same.
+ */
+static void discard_all(struct player *p, uint64_t *list, uint64_t count)
+{
+    for (; count > 0; count--) {
+        uint64_t last = 0;
+        for (uint64_t k = 1; k < count; k++)
+            if (p->first_packet[list[k]] > p->first_packet[list[last]])
+                last = k;
+        p->usbfs->discard(p->usbfs, urb_of(p, list[last]));
+        list[last] = list[count - 1];
+    }
+}
+
 /* Stops, discards, and takes back what is out. False if the kernel keeps a buffer. */
 static bool end(struct player *p)
 {
@@ -239,9 +257,7 @@ static bool end(struct player *p)
     reap_all(p);
     if (usbfs_iso_stop(IMAGE(p), list, sizeof list, OUT(p)) != 0)
         return false;
-    /* A URB that is done, or whose device is gone, cannot be discarded: it comes back all the same. */
-    for (uint64_t k = 0, count = p->out[USBFS_ISO_OUT_VALUE]; k < count; k++)
-        p->usbfs->discard(p->usbfs, urb_of(p, list[k]));
+    discard_all(p, list, p->out[USBFS_ISO_OUT_VALUE]);
     for (;;) {
         reap_all(p); /* that the loudspeaker is gone is no news here */
         if (usbfs_iso_finish(IMAGE(p), OUT(p)) == 0)

@@ -220,9 +220,13 @@ static int reap(struct usbfs *usbfs, struct usbdevfs_urb **urb)
     return 0;
 }
 
+/* The loudspeaker goes on while URBs are discarded: in simulated time, a packet for each. */
 static int discard(struct usbfs *usbfs, struct usbdevfs_urb *urb)
 {
     struct simulated *s = of(usbfs);
+    if (!s->tricks.is_real_time)
+        tick(s);
+    now(usbfs);
     if (s->is_gone)
         return ENODEV;
     for (int k = 0; k < s->count; k++)

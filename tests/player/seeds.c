@@ -102,8 +102,11 @@ static size_t frames_by(const struct trial *c, size_t packet)
     return due < c->frames ? due : c->frames;
 }
 
-/* Every packet heard is a piece of the sound that stands behind the one before it; of a sound played whole, its own. */
-static void check_heard(const struct trial *c, bool is_whole)
+/*
+ * Every packet heard is a piece of the sound that stands behind the one before it; right behind it, if there may be no
+ * gap; and of a sound played whole, the frames that are due.
+ */
+static void check_heard(const struct trial *c, bool is_whole, bool has_no_gap)
 {
     const struct simulated_truth *truth = &simulated_truth;
     size_t next = 0;
@@ -114,8 +117,10 @@ static void check_heard(const struct trial *c, bool is_whole)
             books_check(start == FRAME_BYTES * frames_by(c, k), "each packet has the frames that are due");
         if (end - start < FRAME_BYTES)
             continue;
-        for (put_frame(frame, next); next < c->frames && memcmp(frame, truth->heard + start, FRAME_BYTES) != 0;)
+        for (put_frame(frame, next); next < c->frames && memcmp(frame, truth->heard + start, FRAME_BYTES) != 0;) {
+            books_check(!has_no_gap, "what was heard has no gap");
             put_frame(frame, ++next);
+        }
         for (; end - start >= FRAME_BYTES; start += FRAME_BYTES, next++) {
             put_frame(frame, next);
             books_check(next < c->frames && memcmp(frame, truth->heard + start, FRAME_BYTES) == 0,
@@ -147,13 +152,16 @@ static enum ending read_sentence(FILE *said, uint64_t *played, uint64_t *all)
     return REFUSED;
 }
 
-/* Whether nothing is lost by the seed's tricks: URBs come back late and in any order, no more. */
-static bool is_harmless(const struct trial *c)
+/* Whether all of the seed's tricks are of these kinds: URBs come back late and in any order; and, if so, Ctrl-C. */
+static bool is_harmless(const struct trial *c, bool with_interrupts)
 {
     struct tricks tricks;
     bool is_harmless = read_tricks(c->script, &tricks);
-    for (int k = 0; k < tricks.count; k++)
-        is_harmless &= tricks.list[k].kind == SHUFFLE || (tricks.list[k].kind == LATE && tricks.list[k].number < 1000);
+    for (int k = 0; k < tricks.count; k++) {
+        struct trick trick = tricks.list[k];
+        is_harmless &= trick.kind == SHUFFLE || (trick.kind == LATE && trick.number < 1000) ||
+                       (trick.kind == INTERRUPT && with_interrupts);
+    }
     return is_harmless;
 }
 
@@ -179,10 +187,10 @@ static enum ending play_trial(const struct trial *c)
     books_check(ending == NO_MORE || simulated_truth.out == 0, "no URB is left with the kernel");
     books_check((ending == ALL_PLAYED) == is_whole, "all was played exactly if the player says so");
     books_check((status == 0) == is_whole, "exit status 0 exactly if all was played");
-    books_check(is_whole || !is_harmless(c), "where nothing is lost all is played");
+    books_check(is_whole || !is_harmless(c, false), "where nothing is lost all is played");
+    check_heard(c, is_whole, is_harmless(c, true));
     books_check(said_all == (c->frames * 1000 + c->rate - 1) / c->rate, "how long the sound is");
     books_check(is_whole || said_played == back / FRAME_BYTES * 1000 / c->rate, "how much of it was played");
-    check_heard(c, is_whole);
     return books.wrong == 0 ? ending : FAILED;
 }
 
