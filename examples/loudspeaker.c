@@ -16,7 +16,7 @@
 /* Descriptor types and class codes of USB 2.0 and of its audio class. */
 enum { CONFIGURATION = 2, INTERFACE = 4, ENDPOINT = 5, AUDIO_INTERFACE = 0x24 };
 enum { AUDIO = 1, AUDIO_CONTROL = 1, AUDIO_STREAMING = 2, VERSION_1 = 0, FORMAT_TYPE = 2, FORMAT_TYPE_I = 1 };
-enum { MOST_PLACES = 64, MOST_RATES = 8 };
+enum { MOST_PLACES = 64, MOST_RATES = 32 };
 
 /* Where an endpoint is, and which sound it takes. */
 struct place {
@@ -133,14 +133,14 @@ int list_endpoints(void)
     return lines == 0;
 }
 
-/* Whether the sound can go there. A device that was named may be no audio device; one that was found must be one. */
+/* Whether the sound can go there. A device that was not named must say which sound it takes. */
 static bool fits(const struct place *place, const struct sound *sound, bool is_named)
 {
     bool has_rate = place->rate_count == 0 && place->rates[0] <= sound->rate && sound->rate <= place->rates[1];
     for (unsigned k = 0; k < place->rate_count; k++)
         has_rate |= place->rates[k] == sound->rate;
     if (!place->is_audio || place->channels == 0)
-        return is_named || place->is_audio;
+        return is_named;
     return place->channels == sound->channels && place->sample_bytes == sound->sample_bytes && has_rate;
 }
 
@@ -220,11 +220,12 @@ static int64_t now(struct usbfs *usbfs)
     return (int64_t)time.tv_sec * 1000 + time.tv_nsec / 1000000;
 }
 
-/* Takes an interface from the kernel's driver, if it has one, and claims it. */
+/* Takes an interface from the kernel's driver, if it has one, but from no other player, and claims it. */
 static bool claim(struct loudspeaker *l, int which, int interface)
 {
     struct usbdevfs_getdriver driver = {.interface = (unsigned)interface};
-    struct usbdevfs_disconnect_claim wish = {.interface = (unsigned)interface};
+    struct usbdevfs_disconnect_claim wish = {
+        .interface = (unsigned)interface, .flags = USBDEVFS_DISCONNECT_CLAIM_EXCEPT_DRIVER, .driver = "usbfs"};
     l->had_driver[which] = ioctl(l->fd, USBDEVFS_GETDRIVER, &driver) == 0;
     l->is_claimed[which] = ioctl(l->fd, USBDEVFS_DISCONNECT_CLAIM, &wish) == 0;
     return l->is_claimed[which];
@@ -245,8 +246,10 @@ static void close_loudspeaker(struct usbfs *usbfs)
 {
     struct loudspeaker *l = of(usbfs);
     struct usbdevfs_setinterface quiet = {.interface = (unsigned)l->place.interface, .altsetting = 0};
-    sleep_ms(100); /* a loudspeaker may forget at alternate setting 0 what it has not played yet */
-    ioctl(l->fd, USBDEVFS_SETINTERFACE, &quiet);
+    if (l->is_claimed[1]) {
+        sleep_ms(100); /* a loudspeaker may forget at alternate setting 0 what it has not played yet */
+        ioctl(l->fd, USBDEVFS_SETINTERFACE, &quiet);
+    }
     give_back(l, 1, l->place.interface);
     give_back(l, 0, l->place.control);
     close(l->fd);

@@ -231,10 +231,12 @@ int main(int count, char **arguments)
         uint64_t calls = 0;
         enum ending ending = play_seed(seed, directory, &calls);
         all_calls += calls;
-        if (ending == FAILED && ++failed > 0)
-            printf("seeds: seed %" PRIu64 " failed\n", seed);
-        else
+        if (ending != FAILED) {
             endings_seen[ending]++;
+            continue;
+        }
+        failed++;
+        printf("seeds: seed %" PRIu64 " failed\n", seed);
     }
     snprintf(wav, sizeof wav, "%s/sound.wav", directory);
     unlink(wav);
