@@ -249,11 +249,17 @@ static void discard_all(struct player *p, uint64_t *list, uint64_t count)
     }
 }
 
-/* Stops, discards, and takes back what is out. False if the kernel keeps a buffer. */
+/*
+ * Stops, discards, and takes back what is out. False if the kernel keeps a buffer. Right after a buffer came back there
+ * is most of a packet's time to discard the others in, so the next one is waited for.
+ */
 static bool end(struct player *p)
 {
     uint64_t list[MOST_SLOTS];
     int64_t last = p->usbfs->now(p->usbfs) + PATIENCE_MS;
+    reap_all(p);
+    if (usbfs_iso_finish(IMAGE(p), OUT(p)) != 0)
+        p->usbfs->wait(p->usbfs, COUNTS_EVERY_MS);
     reap_all(p);
     if (usbfs_iso_stop(IMAGE(p), list, sizeof list, OUT(p)) != 0)
         return false;
