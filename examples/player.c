@@ -133,22 +133,25 @@ static uint64_t played_of(const struct usbdevfs_urb *urb)
     return bytes;
 }
 
-/* Takes every buffer that has come back. */
+/* Takes every buffer that has come back, also when one says that the loudspeaker is gone. */
 static uint32_t reap_all(struct player *p)
 {
-    for (;;) {
+    uint32_t refusal, gone = 0;
+    do {
         struct usbdevfs_urb *urb;
         int error = p->usbfs->reap(p->usbfs, &urb);
-        if (error != 0) /* EAGAIN: Nothing, and 0 */
-            return usbfs_iso_reaped_errno(IMAGE(p), (uint32_t)error, BLOCK(p), OUT(p));
-        uint32_t refusal = usbfs_iso_reaped_address(IMAGE(p), (uintptr_t)urb, BLOCK(p), OUT(p));
-        bool is_ours = p->out[USBFS_ISO_OUT_KIND] == USBFS_ISO_KIND_COMPLETION || refusal == USBFS_ISO_DISCONNECTED;
-        if (is_ours)
+        if (error != 0) { /* EAGAIN: Nothing, and 0 */
+            refusal = usbfs_iso_reaped_errno(IMAGE(p), (uint32_t)error, BLOCK(p), OUT(p));
+            return gone != 0 ? gone : refusal;
+        }
+        refusal = usbfs_iso_reaped_address(IMAGE(p), (uintptr_t)urb, BLOCK(p), OUT(p));
+        if (refusal == USBFS_ISO_DISCONNECTED)
+            gone = refusal;
+        if (refusal == USBFS_ISO_DISCONNECTED || p->out[USBFS_ISO_OUT_KIND] == USBFS_ISO_KIND_COMPLETION)
             p->played += played_of(urb);
         p->last_back = p->usbfs->now(p->usbfs);
-        if (refusal != 0)
-            return refusal;
-    }
+    } while (refusal == 0 || refusal == USBFS_ISO_DISCONNECTED);
+    return refusal;
 }
 
 /* The frames that are due by the start of a packet, counted from the first: so any rate comes out right. */

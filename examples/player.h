@@ -1,6 +1,6 @@
 /*
  * What the player's files share. player.c plays; sound.c makes the sound; loudspeaker.c finds a USB loudspeaker and
- * reaches it; simulated.c and tricks.c stand in for one; counts.c shows the counts.
+ * reaches it; simulated.c and events.c stand in for one; counts.c shows the counts.
  */
 #ifndef PLAYER_H
 #define PLAYER_H

@@ -1,6 +1,6 @@
 /*
  * A simulated usbfs with a loudspeaker, inside the process. The loudspeaker takes a packet a millisecond; URBs come
- * back when it has taken their packets, or as the tricks of a script or a seed have it (tricks.c).
+ * back when it has taken their packets, or as the events of a script or a seed have it (events.c).
  */
 #include "player.h"
 #include "simulated.h"
@@ -28,7 +28,7 @@ struct transfer {
 
 struct simulated {
     struct usbfs usbfs;
-    struct tricks tricks;
+    struct events events;
     int64_t start, clock; /* milliseconds */
     struct transfer *transfers[MOST_URBS]; /* in the order in which they were taken */
     int count;
@@ -37,7 +37,7 @@ struct simulated {
     bool is_pulled, is_gone; /* the cable; and the kernel knows it */
 };
 
-struct simulated_truth simulated_truth;
+struct simulated_account simulated_account;
 
 static struct simulated *of(struct usbfs *usbfs)
 {
@@ -53,26 +53,26 @@ static void end_transfer(struct transfer *t, int status, int packet_status)
     t->is_done = true;
 }
 
-static void play_trick(struct simulated *s, const struct trick *trick)
+static void apply_event(struct simulated *s, const struct event *event)
 {
-    switch (trick->kind) {
+    switch (event->kind) {
     case SHUFFLE:
-        s->order = (uint64_t)trick->number * 2 + 1;
+        s->order = (uint64_t)event->number * 2 + 1;
         break;
     case LATE:
-        s->late_until = s->clock + trick->number;
+        s->late_until = s->clock + event->number;
         break;
     case SHORT:
-        s->short_bytes = trick->number;
+        s->short_bytes = event->number;
         break;
     case LOST:
-        s->lost_packets = trick->number;
+        s->lost_packets = event->number;
         break;
     case FLAWED:
-        s->flawed_packets = trick->number;
+        s->flawed_packets = event->number;
         break;
     case REFUSE:
-        s->refusal = trick->number;
+        s->refusal = event->number;
         break;
     case INTERRUPT:
         raise(SIGINT);
@@ -92,14 +92,14 @@ static void play_trick(struct simulated *s, const struct trick *trick)
 /* Writes down what the loudspeaker plays of a packet. */
 static void hear(const uint8_t *bytes, size_t count)
 {
-    struct simulated_truth *truth = &simulated_truth;
-    truth->heard = realloc(truth->heard, truth->played + count + 1);
-    truth->starts = realloc(truth->starts, (truth->packets + 1) * sizeof truth->starts[0]);
-    if (truth->heard == NULL || truth->starts == NULL)
+    struct simulated_account *account = &simulated_account;
+    account->heard = realloc(account->heard, account->played + count + 1);
+    account->starts = realloc(account->starts, (account->packets + 1) * sizeof account->starts[0]);
+    if (account->heard == NULL || account->starts == NULL)
         abort();
-    memcpy(truth->heard + truth->played, bytes, count);
-    truth->starts[truth->packets++] = truth->played;
-    truth->played += count;
+    memcpy(account->heard + account->played, bytes, count);
+    account->starts[account->packets++] = account->played;
+    account->played += count;
 }
 
 /* The loudspeaker takes the next packet, or what there is of it. */
@@ -129,9 +129,9 @@ static void play_packet(struct simulated *s, struct transfer *t)
 /* A millisecond. */
 static void tick(struct simulated *s)
 {
-    for (int k = 0; k < s->tricks.count; k++)
-        if (s->tricks.list[k].at == s->clock)
-            play_trick(s, &s->tricks.list[k]);
+    for (int k = 0; k < s->events.count; k++)
+        if (s->events.list[k].at == s->clock)
+            apply_event(s, &s->events.list[k]);
     for (int k = 0; k < s->count; k++)
         if (!s->transfers[k]->is_done) {
             play_packet(s, s->transfers[k]);
@@ -150,7 +150,7 @@ static int64_t real_time(void)
 static int64_t now(struct usbfs *usbfs)
 {
     struct simulated *s = of(usbfs);
-    while (s->tricks.is_real_time && s->clock < real_time() - s->start)
+    while (s->events.is_real_time && s->clock < real_time() - s->start)
         tick(s);
     return s->clock;
 }
@@ -174,7 +174,7 @@ static int submit(struct usbfs *usbfs, struct usbdevfs_urb *urb)
     for (int k = 0; k < urb->number_of_packets; k++)
         t->lengths[k] = urb->iso_frame_desc[k].length;
     s->transfers[s->count++] = t;
-    simulated_truth.out++;
+    simulated_account.out++;
     return 0;
 }
 
@@ -200,8 +200,8 @@ static void return_transfer(struct transfer *t)
         urb->actual_length += (int)t->actual[k];
         urb->error_count += t->statuses[k] != 0;
     }
-    simulated_truth.out--;
-    simulated_truth.last_returned = (size_t)urb->actual_length;
+    simulated_account.out--;
+    simulated_account.last_returned = (size_t)urb->actual_length;
     free(t->bytes);
     free(t);
 }
@@ -224,7 +224,7 @@ static int reap(struct usbfs *usbfs, struct usbdevfs_urb **urb)
 static int discard(struct usbfs *usbfs, struct usbdevfs_urb *urb)
 {
     struct simulated *s = of(usbfs);
-    if (!s->tricks.is_real_time)
+    if (!s->events.is_real_time)
         tick(s);
     now(usbfs);
     if (s->is_gone)
@@ -242,7 +242,7 @@ static void wait_for_urb(struct usbfs *usbfs, int64_t milliseconds)
     struct simulated *s = of(usbfs);
     int64_t end = now(usbfs) + milliseconds;
     do {
-        if (s->tricks.is_real_time)
+        if (s->events.is_real_time)
             nanosleep(&(struct timespec){.tv_nsec = 1000000}, NULL);
         else
             tick(s);
@@ -263,7 +263,7 @@ static void close_simulated(struct usbfs *usbfs)
 struct usbfs *open_simulated(const char *script)
 {
     struct simulated *s = calloc(1, sizeof *s);
-    if (s == NULL || !read_tricks(script, &s->tricks)) {
+    if (s == NULL || !read_events(script, &s->events)) {
         free(s);
         return NULL;
     }

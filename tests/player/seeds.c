@@ -4,7 +4,7 @@
  * usage: seeds COUNT [FIRST]
  */
 #include "../../examples/simulated.h"
-#include "books.h"
+#include "invariants.h"
 #include <inttypes.h>
 #include <stdbool.h>
 #include <stdio.h>
@@ -17,8 +17,8 @@ int player_main(int count, char **arguments); /* main of examples/player.c */
 
 enum { FRAME_BYTES = 4, SECONDS = 60, WAV_HEADER = 44 };
 enum ending { ALL_PLAYED, LOSSES, GONE_AWAY, STOPPED, NO_MORE, REFUSED, ENDINGS, FAILED };
-static const char *const endings[] = {"played whole",  "with losses", "loudspeaker gone",
-                                      "stopped", "no buffer back", "URB refused"};
+static const char *const endings[] = {"played whole", "with losses",    "loudspeaker gone",
+                                      "stopped",      "no buffer back", "URB refused"};
 
 /* What a seed has the player play: frames that tell their own number. */
 struct trial {
@@ -32,13 +32,13 @@ static uint64_t transferred, discarded;
 
 static void returned(int is_discarded)
 {
-    *(is_discarded ? &discarded : &transferred) += simulated_truth.last_returned;
+    *(is_discarded ? &discarded : &transferred) += simulated_account.last_returned;
 }
 
 static void checked(void)
 {
-    books_check(books.transferred == transferred, "bytes transferred = bytes played of the URBs that came back");
-    books_check(books.out == simulated_truth.out, "out = URBs that the kernel has");
+    check_that(invariants.transferred == transferred, "bytes transferred = bytes played of the URBs that came back");
+    check_that(invariants.out == simulated_account.out, "out = URBs that the kernel has");
 }
 
 static void put(uint8_t *at, int size, uint64_t number)
@@ -108,23 +108,23 @@ static size_t frames_by(const struct trial *c, size_t packet)
  */
 static void check_heard(const struct trial *c, bool is_whole, bool has_no_gap)
 {
-    const struct simulated_truth *truth = &simulated_truth;
+    const struct simulated_account *account = &simulated_account;
     size_t next = 0;
-    for (size_t k = 0; k < truth->packets; k++) {
-        size_t start = truth->starts[k], end = k + 1 < truth->packets ? truth->starts[k + 1] : truth->played;
+    for (size_t k = 0; k < account->packets; k++) {
+        size_t start = account->starts[k], end = k + 1 < account->packets ? account->starts[k + 1] : account->played;
         uint8_t frame[FRAME_BYTES];
         if (is_whole)
-            books_check(start == FRAME_BYTES * frames_by(c, k), "each packet has the frames that are due");
+            check_that(start == FRAME_BYTES * frames_by(c, k), "each packet has the frames that are due");
         if (end - start < FRAME_BYTES)
             continue;
-        for (put_frame(frame, next); next < c->frames && memcmp(frame, truth->heard + start, FRAME_BYTES) != 0;) {
-            books_check(!has_no_gap, "what was heard has no gap");
+        for (put_frame(frame, next); next < c->frames && memcmp(frame, account->heard + start, FRAME_BYTES) != 0;) {
+            check_that(!has_no_gap, "what was heard has no gap");
             put_frame(frame, ++next);
         }
         for (; end - start >= FRAME_BYTES; start += FRAME_BYTES, next++) {
             put_frame(frame, next);
-            books_check(next < c->frames && memcmp(frame, truth->heard + start, FRAME_BYTES) == 0,
-                        "what was heard is the sound, in order");
+            check_that(next < c->frames && memcmp(frame, account->heard + start, FRAME_BYTES) == 0,
+                       "what was heard is the sound, in order");
         }
     }
 }
@@ -152,15 +152,15 @@ static enum ending read_sentence(FILE *said, uint64_t *played, uint64_t *all)
     return REFUSED;
 }
 
-/* Whether all of the seed's tricks are of these kinds: URBs come back late and in any order; and, if so, Ctrl-C. */
+/* Whether all of the seed's events are of these kinds: URBs come back late and in any order; and, if so, Ctrl-C. */
 static bool is_harmless(const struct trial *c, bool with_interrupts)
 {
-    struct tricks tricks;
-    bool is_harmless = read_tricks(c->script, &tricks);
-    for (int k = 0; k < tricks.count; k++) {
-        struct trick trick = tricks.list[k];
-        is_harmless &= trick.kind == SHUFFLE || (trick.kind == LATE && trick.number < 1000) ||
-                       (trick.kind == INTERRUPT && with_interrupts);
+    struct events events;
+    bool is_harmless = read_events(c->script, &events);
+    for (int k = 0; k < events.count; k++) {
+        struct event event = events.list[k];
+        is_harmless &= event.kind == SHUFFLE || (event.kind == LATE && event.number < 1000) ||
+                       (event.kind == INTERRUPT && with_interrupts);
     }
     return is_harmless;
 }
@@ -168,30 +168,30 @@ static bool is_harmless(const struct trial *c, bool with_interrupts)
 /* Plays a trial, and checks the player's sentence and exit status. Gives the ending. */
 static enum ending play_trial(const struct trial *c)
 {
-    char *arguments[] = {"player",    "--simulate",  (char *)c->script,  "--slots",      (char *)c->slots,
-                         "--packets", (char *)c->packets, (char *)c->wav, NULL};
+    char *arguments[] = {"player",    "--simulate",       (char *)c->script, "--slots", (char *)c->slots,
+                         "--packets", (char *)c->packets, (char *)c->wav,    NULL};
     uint64_t said_played = 0, said_all = 0, length = FRAME_BYTES * c->frames;
     FILE *said = tmpfile();
     if (said == NULL || dup2(fileno(said), STDOUT_FILENO) < 0 || !write_wav(c))
         return FAILED;
-    books.returned = returned;
-    books.checked = checked;
+    invariants.returned = returned;
+    invariants.checked = checked;
     int status = player_main(8, arguments);
     fflush(stdout);
     rewind(said);
     enum ending ending = read_sentence(said, &said_played, &said_all);
     uint64_t back = transferred + discarded;
-    bool is_whole = simulated_truth.played == length && back == length;
-    books_check(ending != FAILED, "a sentence at the end");
-    books_check(back == simulated_truth.played || simulated_truth.out > 0, "all that was played came back");
-    books_check(ending == NO_MORE || simulated_truth.out == 0, "no URB is left with the kernel");
-    books_check((ending == ALL_PLAYED) == is_whole, "all was played exactly if the player says so");
-    books_check((status == 0) == is_whole, "exit status 0 exactly if all was played");
-    books_check(is_whole || !is_harmless(c, false), "where nothing is lost all is played");
+    bool is_whole = simulated_account.played == length && back == length;
+    check_that(ending != FAILED, "a sentence at the end");
+    check_that(back == simulated_account.played || simulated_account.out > 0, "all that was played came back");
+    check_that(ending == NO_MORE || simulated_account.out == 0, "no URB is left with the kernel");
+    check_that((ending == ALL_PLAYED) == is_whole, "all was played exactly if the player says so");
+    check_that((status == 0) == is_whole, "exit status 0 exactly if all was played");
+    check_that(is_whole || !is_harmless(c, false), "where nothing is lost all is played");
     check_heard(c, is_whole, is_harmless(c, true));
-    books_check(said_all == (c->frames * 1000 + c->rate - 1) / c->rate, "how long the sound is");
-    books_check(is_whole || said_played == back / FRAME_BYTES * 1000 / c->rate, "how much of it was played");
-    return books.wrong == 0 ? ending : FAILED;
+    check_that(said_all == (c->frames * 1000 + c->rate - 1) / c->rate, "how long the sound is");
+    check_that(is_whole || said_played == back / FRAME_BYTES * 1000 / c->rate, "how much of it was played");
+    return invariants.wrong == 0 ? ending : FAILED;
 }
 
 /* Plays a seed in a process of its own, which may last so long and no longer. */
@@ -206,7 +206,7 @@ static enum ending play_seed(uint64_t seed, const char *directory, uint64_t *cal
         alarm(SECONDS);
         choose_trial(&c, seed, directory);
         enum ending ending = play_trial(&c);
-        if (write(numbers[1], &books.calls, sizeof books.calls) != sizeof books.calls)
+        if (write(numbers[1], &invariants.calls, sizeof invariants.calls) != sizeof invariants.calls)
             ending = FAILED;
         _exit(ending);
     }

@@ -1,7 +1,6 @@
 /*
- * The tricks of a simulated usbfs. A script has a trick a line, with the millisecond at which it is played; # begins a
- * comment:
- *   realtime          (without numbers) a millisecond takes a millisecond; else time passes as the player waits
+ * What happens to a simulated usbfs, and when. A script has an event a line, with its millisecond; # begins a comment:
+ *   realtime          a millisecond takes a millisecond; without this line, time passes as the player waits
  *   shuffle AT SEED   from now on URBs that are done come back in any order
  *   late AT MS        no URB comes back for so long
  *   short AT BYTES    so many bytes of the next packet are not played; the kernel calls it no error
@@ -30,19 +29,19 @@ uint64_t next_random(uint64_t *state)
     return *state * 0x2545f4914f6cdd1d >> 16;
 }
 
-/* A pull is two tricks: the cable goes, and later the kernel finds out. */
-static bool add_trick(struct tricks *tricks, enum trick_kind kind, int64_t at, int64_t number)
+/* A pull is two events: the cable goes, and later the kernel finds out. */
+static bool add_event(struct events *events, enum event_kind kind, int64_t at, int64_t number)
 {
-    if (tricks->count + 2 > MOST_TRICKS || at < 0 || number < 0)
+    if (events->count + 2 > MOST_EVENTS || at < 0 || number < 0)
         return false;
-    tricks->list[tricks->count++] = (struct trick){kind, at, number};
+    events->list[events->count++] = (struct event){kind, at, number};
     if (kind == PULL)
-        tricks->list[tricks->count++] = (struct trick){GONE, at + number, 0};
+        events->list[events->count++] = (struct event){GONE, at + number, 0};
     return true;
 }
 
-/* Up to five tricks of any kind in the first two seconds. */
-static void tricks_from_seed(struct tricks *tricks, uint64_t seed)
+/* Up to five events of any kind in the first two seconds. */
+static void events_from_seed(struct events *events, uint64_t seed)
 {
     static const int errnos[] = {ENODEV, ENOMEM, EACCES, EPERM, ENOTTY, EINVAL, ENOSPC, ESHUTDOWN};
     static const int64_t limits[] = {1000, 400, 200, 20, 0, 1, 1, 60};
@@ -50,8 +49,8 @@ static void tricks_from_seed(struct tricks *tricks, uint64_t seed)
     for (int k = 0; k < 8; k++)
         next_random(&random);
     for (uint64_t left = next_random(&random) % 6; left > 0; left--) {
-        static const enum trick_kind kinds[] = {SHUFFLE, LATE, SHORT, LOST, REFUSE, INTERRUPT, PULL};
-        enum trick_kind kind = kinds[next_random(&random) % (sizeof kinds / sizeof kinds[0])];
+        static const enum event_kind kinds[] = {SHUFFLE, LATE, SHORT, LOST, REFUSE, INTERRUPT, PULL};
+        enum event_kind kind = kinds[next_random(&random) % (sizeof kinds / sizeof kinds[0])];
         int64_t at = (int64_t)(next_random(&random) % 2000), number = 1;
         if (kind == REFUSE)
             number = errnos[next_random(&random) % (sizeof errnos / sizeof errnos[0])];
@@ -59,36 +58,41 @@ static void tricks_from_seed(struct tricks *tricks, uint64_t seed)
             number += (int64_t)(next_random(&random) % (uint64_t)limits[kind]);
         if (kind == LATE && next_random(&random) % 8 == 0)
             number *= 20; /* longer than a player has patience */
-        add_trick(tricks, kind, at, number);
+        add_event(events, kind, at, number);
     }
 }
 
-/* Reads a script. Gives the number of the first line that is wrong, or 0. */
-static int read_script(struct tricks *tricks, FILE *file)
+/* Reads a line of a script. False if it is wrong. */
+static bool read_line(struct events *events, const char *line)
 {
-    char line[200], name[20], rest[2];
+    char name[20], rest[2];
+    int64_t at, number;
+    int kind = 0, words = sscanf(line, "%19s %" SCNd64 " %" SCNd64 " %1s", name, &at, &number, rest);
+    if (words == 1 && strcmp(name, "realtime") == 0)
+        return events->is_real_time = true;
+    while (words == 3 && kind < GONE && strcmp(name, names[kind]) != 0)
+        kind++;
+    return words <= 0 || (words == 3 && kind < GONE && add_event(events, (enum event_kind)kind, at, number));
+}
+
+/* Reads a script. Gives the number of the first line that is wrong, or 0. */
+static int read_script(struct events *events, FILE *file)
+{
+    char line[200];
     for (int number = 1; fgets(line, sizeof line, file) != NULL; number++) {
-        int64_t at, value;
-        int kind = 0;
         line[strcspn(line, "#\n")] = '\0';
-        int words = sscanf(line, "%19s %" SCNd64 " %" SCNd64 " %1s", name, &at, &value, rest);
-        if (words == 1 && strcmp(name, "realtime") == 0)
-            tricks->is_real_time = true;
-        while (words == 3 && kind < GONE && strcmp(name, names[kind]) != 0)
-            kind++;
-        if (words > 0 && !(words == 1 && tricks->is_real_time) &&
-            !(words == 3 && kind < GONE && add_trick(tricks, (enum trick_kind)kind, at, value)))
+        if (!read_line(events, line))
             return number;
     }
     return 0;
 }
 
 /* `script` is the name of a file, or a number: a seed. Says on standard error what is wrong, and gives false. */
-bool read_tricks(const char *script, struct tricks *tricks)
+bool read_events(const char *script, struct events *events)
 {
-    *tricks = (struct tricks){.count = 0};
+    *events = (struct events){.count = 0};
     if (script[strspn(script, "0123456789")] == '\0') {
-        tricks_from_seed(tricks, strtoull(script, NULL, 10));
+        events_from_seed(events, strtoull(script, NULL, 10));
         return true;
     }
     FILE *file = fopen(script, "r");
@@ -96,9 +100,9 @@ bool read_tricks(const char *script, struct tricks *tricks)
         fprintf(stderr, "player: %s: %s\n", script, strerror(errno));
         return false;
     }
-    int wrong = read_script(tricks, file);
+    int wrong = read_script(events, file);
     fclose(file);
     if (wrong != 0)
-        fprintf(stderr, "player: %s: line %d is no trick\n", script, wrong);
+        fprintf(stderr, "player: %s: line %d is no event\n", script, wrong);
     return wrong == 0;
 }

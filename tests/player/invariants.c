@@ -2,14 +2,14 @@
  * Stands between the player and the library (the linker's --wrap), and checks the image after every call: submitted =
  * completed + discarded + out, and every slot is out, in the queue or in hand.
  */
-#include "books.h"
+#include "invariants.h"
 #include <stdio.h>
 #include <string.h>
 #include <usbfs_iso.h>
 
 enum { QUEUE_LENGTH_AT = 4, HAND_KIND_AT = 88, STATES_AT = 128, IN_FLIGHT = 2 };
 
-struct books books;
+struct invariants invariants;
 
 static uint64_t number_at(const void *image, size_t at, size_t size)
 {
@@ -18,28 +18,33 @@ static uint64_t number_at(const void *image, size_t at, size_t size)
     return number;
 }
 
-void books_check(int holds, const char *what)
+void check_that(int holds, const char *what)
 {
-    books.wrong += !holds;
+    invariants.wrong += !holds;
     if (!holds)
-        fprintf(stderr, "books: after call %lu: not so: %s\n", (unsigned long)books.calls, what);
+        fprintf(stderr, "invariants: after call %lu: not so: %s\n", (unsigned long)invariants.calls, what);
+}
+
+static uint64_t counter(const void *image, uint64_t slots, enum usbfs_iso_counter which)
+{
+    return number_at(image, USBFS_ISO_COUNTER_AT(slots, which), 8);
 }
 
 static void check(const void *image)
 {
-    uint64_t slots = number_at(image, 0, 4), submitted, completed;
-    books.calls++;
-    books.out = 0;
+    uint64_t slots = number_at(image, 0, 4), queued = number_at(image, QUEUE_LENGTH_AT, 4);
+    uint64_t submitted = counter(image, slots, USBFS_ISO_COUNTER_URBS_SUBMITTED);
+    uint64_t completed = counter(image, slots, USBFS_ISO_COUNTER_URBS_COMPLETED);
+    uint64_t in_hand = number_at(image, HAND_KIND_AT, 8) != 0, out = 0;
     for (uint64_t k = 0; k < slots; k++)
-        books.out += number_at(image, STATES_AT + k, 1) >= IN_FLIGHT;
-    submitted = number_at(image, USBFS_ISO_COUNTER_AT(slots, USBFS_ISO_COUNTER_URBS_SUBMITTED), 8);
-    completed = number_at(image, USBFS_ISO_COUNTER_AT(slots, USBFS_ISO_COUNTER_URBS_COMPLETED), 8);
-    books.transferred = number_at(image, USBFS_ISO_COUNTER_AT(slots, USBFS_ISO_COUNTER_BYTES_TRANSFERRED), 8);
-    books_check(submitted == completed + books.discarded + books.out, "submitted = completed + discarded + out");
-    books_check(slots == books.out + number_at(image, QUEUE_LENGTH_AT, 4) + (number_at(image, HAND_KIND_AT, 8) != 0),
-                "every slot is out, in the queue or in hand");
-    if (books.checked != NULL)
-        books.checked();
+        out += number_at(image, STATES_AT + k, 1) >= IN_FLIGHT;
+    invariants.calls++;
+    invariants.out = out;
+    invariants.transferred = counter(image, slots, USBFS_ISO_COUNTER_BYTES_TRANSFERRED);
+    check_that(submitted == completed + invariants.discarded + out, "submitted = completed + discarded + out");
+    check_that(slots == out + queued + in_hand, "every slot is out, in the queue or in hand");
+    if (invariants.checked != NULL)
+        invariants.checked();
 }
 
 /* The library's function under its own name, and the one that the player gets. */
@@ -86,10 +91,10 @@ uint32_t __wrap_usbfs_iso_reaped_address(void *image, size_t image_len, uint64_t
     uint32_t refusal = __real_usbfs_iso_reaped_address(image, image_len, address, block, block_len, out, out_len);
     memcpy(numbers, out, out_len < sizeof numbers ? out_len : sizeof numbers);
     int is_discarded = numbers[USBFS_ISO_OUT_KIND] == USBFS_ISO_KIND_COMPLETION && numbers[USBFS_ISO_OUT_DISCARDED];
-    books_check(refusal == 0 || refusal == USBFS_ISO_DISCONNECTED, "a URB that came back is one of the ring's");
-    books.discarded += (uint64_t)is_discarded;
-    if (books.returned != NULL)
-        books.returned(is_discarded);
+    check_that(refusal == 0 || refusal == USBFS_ISO_DISCONNECTED, "a URB that came back is one of the ring's");
+    invariants.discarded += (uint64_t)is_discarded;
+    if (invariants.returned != NULL)
+        invariants.returned(is_discarded);
     check(image);
     return refusal;
 }

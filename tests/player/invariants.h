@@ -1,11 +1,11 @@
-/* The library's books, checked after every call that the player makes (books.c). */
-#ifndef BOOKS_H
-#define BOOKS_H
+/* What must hold of the image after every call that the player makes (invariants.c). */
+#ifndef INVARIANTS_H
+#define INVARIANTS_H
 
 #include <stddef.h>
 #include <stdint.h>
 
-struct books {
+struct invariants {
     uint64_t calls, wrong;        /* calls checked; checks that failed */
     uint64_t discarded;           /* URBs that came back discarded */
     uint64_t out;                 /* slots out, by the image */
@@ -14,9 +14,9 @@ struct books {
     void (*checked)(void);              /* what else is to be checked after a call, or NULL */
 };
 
-extern struct books books;
+extern struct invariants invariants;
 
 /* Counts a check that failed, and says so on standard error. */
-void books_check(int holds, const char *what);
+void check_that(int holds, const char *what);
 
 #endif
