@@ -4,22 +4,9 @@
 #include <inttypes.h>
 #include <stdio.h>
 #include <string.h>
-#include <time.h>
 
 /* The player writes its counts four times a second, so counts that are older than this are no news. */
 enum { OLD_MS = 1000, LOOK_EVERY_MS = 250, LINE_EVERY_MS = 1000 };
-
-static int64_t clock_ms(clockid_t clock)
-{
-    struct timespec time;
-    clock_gettime(clock, &time);
-    return (int64_t)time.tv_sec * 1000 + time.tv_nsec / 1000000;
-}
-
-int64_t present_time(void)
-{
-    return clock_ms(CLOCK_REALTIME);
-}
 
 static void print_time(void)
 {
@@ -121,14 +108,15 @@ int show_screen(const char *path)
         if (taken != counts.taken)
             changed = now;
         taken = counts.taken;
-        int64_t age = present_time() - taken > now - changed ? present_time() - taken : now - changed;
+        int64_t told = clock_ms(CLOCK_REALTIME) - taken, seen = now - changed;
+        int64_t age = told > seen ? told : seen;
         enum news news = !is_there ? NO_COUNTS : !counts.is_running ? ENDED : age > OLD_MS ? NO_NEWS : RUNNING;
         if (news != last || now - printed >= LINE_EVERY_MS) {
             print_news(news, &counts, age, why);
             printed = now;
         }
         last = news;
-        nanosleep(&(struct timespec){.tv_nsec = LOOK_EVERY_MS * 1000000L}, NULL);
+        sleep_ms(LOOK_EVERY_MS);
     }
     return 1;
 }

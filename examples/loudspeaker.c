@@ -9,7 +9,6 @@
 #include <stdlib.h>
 #include <string.h>
 #include <sys/ioctl.h>
-#include <time.h>
 #include <unistd.h>
 #include <usbfs_iso.h>
 
@@ -199,11 +198,6 @@ static int discard(struct usbfs *usbfs, struct usbdevfs_urb *urb)
     return ioctl(of(usbfs)->fd, USBDEVFS_DISCARDURB, urb) == 0 ? 0 : errno;
 }
 
-static void sleep_ms(long milliseconds)
-{
-    nanosleep(&(struct timespec){.tv_nsec = milliseconds * 1000000}, NULL);
-}
-
 /* Once the device is gone poll ends at once, though URBs may still be on their way back: then it is slept instead. */
 static void wait_for_urb(struct usbfs *usbfs, int64_t milliseconds)
 {
@@ -214,10 +208,8 @@ static void wait_for_urb(struct usbfs *usbfs, int64_t milliseconds)
 
 static int64_t now(struct usbfs *usbfs)
 {
-    struct timespec time;
     (void)usbfs;
-    clock_gettime(CLOCK_MONOTONIC, &time);
-    return (int64_t)time.tv_sec * 1000 + time.tv_nsec / 1000000;
+    return clock_ms(CLOCK_MONOTONIC);
 }
 
 /* Takes an interface from the kernel's driver, if it has one, but from no other player, and claims it. */

@@ -95,7 +95,7 @@ static void report(struct player *p, bool is_running)
     int64_t now = p->usbfs->now(p->usbfs);
     bool is_written = true;
     struct counts counts = {
-        .taken = present_time(),
+        .taken = clock_ms(CLOCK_REALTIME),
         .is_running = is_running,
         .sent = counter(p, USBFS_ISO_COUNTER_URBS_SUBMITTED),
         .back = counter(p, USBFS_ISO_COUNTER_URBS_COMPLETED),

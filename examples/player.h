@@ -1,6 +1,6 @@
 /*
  * What the player's files share. player.c plays; sound.c makes the sound; loudspeaker.c finds a USB loudspeaker and
- * reaches it; simulated.c and events.c stand in for one; counts.c shows the counts.
+ * reaches it; simulated.c and events.c stand in for one; counts.c shows the counts; clock.c has the time.
  */
 #ifndef PLAYER_H
 #define PLAYER_H
@@ -9,6 +9,10 @@
 #include <stdbool.h>
 #include <stddef.h>
 #include <stdint.h>
+#include <time.h>
+
+int64_t clock_ms(clockid_t clock);
+void sleep_ms(long milliseconds);
 
 /* PCM sound, whole frames. */
 struct sound {
@@ -66,7 +70,6 @@ struct counts {
     uint64_t played_ms, all_ms;  /* how much of the sound has really been played */
 };
 
-int64_t present_time(void);
 void print_counts_heading(void);
 void print_counts(const struct counts *counts);
 bool write_counts(const char *path, const struct counts *counts);

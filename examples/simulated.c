@@ -9,7 +9,6 @@
 #include <stdio.h>
 #include <stdlib.h>
 #include <string.h>
-#include <time.h>
 #include <usbfs_iso.h>
 
 enum { MOST_URBS = 256, MOST_PACKETS = 128 };
@@ -140,17 +139,10 @@ static void tick(struct simulated *s)
     s->clock++;
 }
 
-static int64_t real_time(void)
-{
-    struct timespec time;
-    clock_gettime(CLOCK_MONOTONIC, &time);
-    return (int64_t)time.tv_sec * 1000 + time.tv_nsec / 1000000;
-}
-
 static int64_t now(struct usbfs *usbfs)
 {
     struct simulated *s = of(usbfs);
-    while (s->events.is_real_time && s->clock < real_time() - s->start)
+    while (s->events.is_real_time && s->clock < clock_ms(CLOCK_MONOTONIC) - s->start)
         tick(s);
     return s->clock;
 }
@@ -243,7 +235,7 @@ static void wait_for_urb(struct usbfs *usbfs, int64_t milliseconds)
     int64_t end = now(usbfs) + milliseconds;
     do {
         if (s->events.is_real_time)
-            nanosleep(&(struct timespec){.tv_nsec = 1000000}, NULL);
+            sleep_ms(1);
         else
             tick(s);
     } while (now(usbfs) < end && choose(s) < 0);
@@ -269,6 +261,6 @@ struct usbfs *open_simulated(const char *script)
     }
     s->usbfs = (struct usbfs){{USBFS_ISO_SPEED_FULL, 1, 1, 1, 192}, submit, reap, discard, wait_for_urb, now,
                               close_simulated};
-    s->start = real_time();
+    s->start = clock_ms(CLOCK_MONOTONIC);
     return &s->usbfs;
 }

@@ -3,6 +3,7 @@
  * completed + discarded + out, and every slot is out, in the queue or in hand.
  */
 #include "invariants.h"
+#include "../c_bytes.h"
 #include <stdio.h>
 #include <string.h>
 #include <usbfs_iso.h>
@@ -11,13 +12,6 @@ enum { QUEUE_LENGTH_AT = 4, HAND_KIND_AT = 88, STATES_AT = 128, IN_FLIGHT = 2 };
 
 struct invariants invariants;
 
-static uint64_t number_at(const void *image, size_t at, size_t size)
-{
-    uint64_t number = 0;
-    memcpy(&number, (const unsigned char *)image + at, size);
-    return number;
-}
-
 void check_that(int holds, const char *what)
 {
     invariants.wrong += !holds;
@@ -25,19 +19,19 @@ void check_that(int holds, const char *what)
         fprintf(stderr, "invariants: after call %lu: not so: %s\n", (unsigned long)invariants.calls, what);
 }
 
-static uint64_t counter(const void *image, uint64_t slots, enum usbfs_iso_counter which)
+static uint64_t counter(const uint8_t *image, uint64_t slots, enum usbfs_iso_counter which)
 {
-    return number_at(image, USBFS_ISO_COUNTER_AT(slots, which), 8);
+    return number_at(image + USBFS_ISO_COUNTER_AT(slots, which), 8);
 }
 
-static void check(const void *image)
+static void check(const uint8_t *image)
 {
-    uint64_t slots = number_at(image, 0, 4), queued = number_at(image, QUEUE_LENGTH_AT, 4);
+    uint64_t slots = number_at(image, 4), queued = number_at(image + QUEUE_LENGTH_AT, 4);
     uint64_t submitted = counter(image, slots, USBFS_ISO_COUNTER_URBS_SUBMITTED);
     uint64_t completed = counter(image, slots, USBFS_ISO_COUNTER_URBS_COMPLETED);
-    uint64_t in_hand = number_at(image, HAND_KIND_AT, 8) != 0, out = 0;
+    uint64_t in_hand = number_at(image + HAND_KIND_AT, 8) != 0, out = 0;
     for (uint64_t k = 0; k < slots; k++)
-        out += number_at(image, STATES_AT + k, 1) >= IN_FLIGHT;
+        out += image[STATES_AT + k] >= IN_FLIGHT;
     invariants.calls++;
     invariants.out = out;
     invariants.transferred = counter(image, slots, USBFS_ISO_COUNTER_BYTES_TRANSFERRED);

@@ -4,6 +4,7 @@
  * usage: seeds COUNT [FIRST]
  */
 #include "../../examples/simulated.h"
+#include "../c_bytes.h"
 #include "invariants.h"
 #include <inttypes.h>
 #include <stdbool.h>
@@ -16,7 +17,7 @@
 int player_main(int count, char **arguments); /* main of examples/player.c */
 
 enum { FRAME_BYTES = 4, SECONDS = 60, WAV_HEADER = 44 };
-enum ending { ALL_PLAYED, LOSSES, GONE_AWAY, STOPPED, NO_MORE, REFUSED, ENDINGS, FAILED };
+enum ending { ALL_PLAYED, LOSSES, GONE_AWAY, STOPPED, NOT_BACK, REFUSED, ENDINGS, FAILED };
 static const char *const endings[] = {"played whole", "with losses",    "loudspeaker gone",
                                       "stopped",      "no buffer back", "URB refused"};
 
@@ -41,15 +42,9 @@ static void checked(void)
     check_that(invariants.out == simulated_account.out, "out = URBs that the kernel has");
 }
 
-static void put(uint8_t *at, int size, uint64_t number)
-{
-    for (int k = 0; k < size; k++)
-        at[k] = (uint8_t)(number >> 8 * k);
-}
-
 static void put_frame(uint8_t *at, size_t number)
 {
-    put(at, 4, number * 2654435761u + 1); /* odd factor: no two of 2^32 frames are the same */
+    put_number(at, 4, number * 2654435761u + 1); /* odd factor: no two of 2^32 frames are the same */
 }
 
 static bool write_wav(const struct trial *c)
@@ -58,16 +53,16 @@ static bool write_wav(const struct trial *c)
     FILE *file = fopen(c->wav, "wb");
     if (file == NULL)
         return false;
-    put(header + 4, 4, 36 + FRAME_BYTES * c->frames);
-    put(header + 16, 4, 16);
-    put(header + 20, 2, 1);
-    put(header + 22, 2, 2);
-    put(header + 24, 4, c->rate);
-    put(header + 28, 4, c->rate * FRAME_BYTES);
-    put(header + 32, 2, FRAME_BYTES);
-    put(header + 34, 2, 16);
+    put_number(header + 4, 4, 36 + FRAME_BYTES * c->frames);
+    put_number(header + 16, 4, 16);
+    put_number(header + 20, 2, 1);
+    put_number(header + 22, 2, 2);
+    put_number(header + 24, 4, c->rate);
+    put_number(header + 28, 4, c->rate * FRAME_BYTES);
+    put_number(header + 32, 2, FRAME_BYTES);
+    put_number(header + 34, 2, 16);
     memcpy(header + 36, "data", 4);
-    put(header + 40, 4, FRAME_BYTES * c->frames);
+    put_number(header + 40, 4, FRAME_BYTES * c->frames);
     fwrite(header, 1, sizeof header, file);
     for (size_t k = 0; k < c->frames; k++) {
         put_frame(frame, k);
@@ -148,7 +143,7 @@ static enum ending read_sentence(FILE *said, uint64_t *played, uint64_t *all)
     if (strcmp(reason, "it was stopped.") == 0)
         return STOPPED;
     if (strcmp(reason, "no buffer came back.") == 0 || strcmp(reason, "the kernel kept a buffer.") == 0)
-        return NO_MORE;
+        return NOT_BACK;
     return REFUSED;
 }
 
@@ -184,7 +179,7 @@ static enum ending play_trial(const struct trial *c)
     bool is_whole = simulated_account.played == length && back == length;
     check_that(ending != FAILED, "a sentence at the end");
     check_that(back == simulated_account.played || simulated_account.out > 0, "all that was played came back");
-    check_that(ending == NO_MORE || simulated_account.out == 0, "no URB is left with the kernel");
+    check_that(ending == NOT_BACK || simulated_account.out == 0, "no URB is left with the kernel");
     check_that((ending == ALL_PLAYED) == is_whole, "all was played exactly if the player says so");
     check_that((status == 0) == is_whole, "exit status 0 exactly if all was played");
     check_that(is_whole || !is_harmless(c, false), "where nothing is lost all is played");
