@@ -19,8 +19,11 @@ SEED = 1
 compare: build/libusbfs_iso.a
 	@tests/beside_rust '$(RUNS)' '$(SEED)'
 
+# With BEFORE=COMMIT stop is measured beside that commit's too.
+BEFORE =
+
 bench: build/libusbfs_iso.a
-	@tests/bench
+	@tests/bench '$(BEFORE)'
 
 kernel:
 	@tests/kernel/run

@@ -80,7 +80,7 @@ fn round(s: Stream, address: usize, is_first: bool, block: &mut [u8]) -> Stream 
 }
 
 // That many rounds, over the headers' addresses in turn.
-fn rounds(s: Stream, addresses: &[usize], count: usize, block: &mut [u8]) -> Stream {
+pub fn rounds(s: Stream, addresses: &[usize], count: usize, block: &mut [u8]) -> Stream {
     let slots = addresses.len();
     let mut stream = s;
     let mut i = 0;
