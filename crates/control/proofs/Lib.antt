@@ -1,3 +1,4 @@
 pub mod Unmoved
 pub mod Scanned
+pub mod Looked
 pub mod Stopped

@@ -40,11 +40,6 @@ marksOf ring i = table (λ j. markFor (stateOf ring j)) i
 abbrev pub inFlight : Ring → ℕ → List ℕ
 inFlight ring i = inFlightFrom 0 (marksOf ring i)
 
-pub looked-few : (listed : Bool) (i : ℕ) (t : Scan) → t .count ≤ i → lookedAt listed i t .count ≤ i + 1
-unfolding lookedAt
-looked-few true i t h = omega arith
-looked-few false i t h = omega arith
-
 -- a state that is not InFlight stays, and its slot is not listed
 not-in-flight : (x : SlotState) → isInFlight x ≡ false → (i : ℕ) → (stopped x ≡ x) × (inFlightFrom i (markFor x ∷ []) ≡ [])
 unfolding isInFlight stopped inFlightFrom markFor

@@ -73,7 +73,8 @@ pub fn stop(s: Stream, list: &mut [usize]) -> Reply
         Gate::Refused(e) => refused(s, e),
         Gate::Open => {
             let setup = s.setup;
-            let scan = discard_all(s.ring, setup.slots);
+            let found = discard_all(s.ring, setup.slots);
+            let scan = found.scan;
             let marked = scan.ring;
             let count = scan.count;
             if list.len() < count {

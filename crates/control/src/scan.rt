@@ -1,19 +1,28 @@
-// stop's walk over the slots: it marks those that are InFlight, and lists their numbers.
+// stop's scan of the slots: it marks those that are InFlight, lists their numbers, and looks no further than the last
+// slot that is out (request 2026-02).
 use ring::Ring;
 use ring::SlotState;
+ghost use mathlib.Core.Bool.{true};
 ghost use mathlib.Core.List.{_++_};
 ghost use mathlib.Core.Path.{_≡_};
-ghost use Prim.Native.Nat.{_<_, _≤_};
+ghost use Prim.Native.Nat.{_≤_};
 ghost use lib.ListN.{length, replicate, take, drop};
-ghost use Rattle.ring.specs.Parts.{stateOf};
-ghost use Rattle.control.specs.Scan.{isInFlight, lookedAt, scanned};
+ghost use Rattle.ring.specs.Slots.{isOut};
+ghost use Rattle.ring.specs.Sound.{outSound};
+ghost use Rattle.control.specs.Scan.{isInFlight, scanned, pastHighestOut};
 
-// The ring as marked so far; the numbers listed so far stand in the first count places of slots. The walk keeps its own
-// list, since the host's stays untouched where it is too short.
+// The ring as marked; the numbers listed stand in the first count places of slots. The scan keeps its own list, since
+// the host's stays untouched where it is too short.
 pub struct Scan {
     pub ring: Ring,
     pub slots: [u8; 256],
     pub count: usize,
+}
+
+// What the scan found, and how many slots it looked at.
+pub struct ScanResult {
+    pub scan: Scan,
+    pub looked: usize,
 }
 
 // Internal: whether stop lists a slot in this state. One that is Discarding was listed before.
@@ -28,6 +37,18 @@ fn in_flight(state: SlotState) -> bool
     }
 }
 
+// Internal: whether the kernel has a slot in this state.
+fn is_out(state: SlotState) -> bool
+    ensures { λ r. ⌜ r ≡ isOut state ⌝ }
+{
+    match state {
+        SlotState::Free => false,
+        SlotState::Filling => false,
+        SlotState::InFlight => true,
+        SlotState::Discarding => true,
+    }
+}
+
 // Internal: no numbers yet.
 fn no_slots() -> [u8; 256]
     ensures { λ r. ⌜ r ≡ replicate 256 0 ⌝ }
@@ -36,25 +57,6 @@ fn no_slots() -> [u8; 256]
 }
 
 impl Scan {
-    // Internal: looks at slot i.
-    pub fn look(self, i: usize) -> Scan
-        requires { ⌜ (i < 256) × (self .count < 256) ⌝ }
-        ensures { λ r. ⌜ r ≡ lookedAt (isInFlight (stateOf (self .ring) i)) i self ⌝ }
-    {
-        let ring = self.ring;
-        if !in_flight(ring.state(i)) {
-            return self;
-        }
-        let count = self.count;
-        let mut slots = self.slots;
-        slots[count] = i as u8;
-        Scan {
-            ring: ring.mark_discarding(i),
-            slots,
-            count: count + 1,
-        }
-    }
-
     // Internal: writes the numbers into the list, whose rest stays as it was.
     pub fn write_list(self, list: &mut [usize])
         requires { ⌜ (self .count ≤ 256) × (self .count ≤ length (now list)) ⌝ }
@@ -69,18 +71,38 @@ impl Scan {
     }
 }
 
-// Internal: looks at the first n slots, from slot 0 on.
-pub fn discard_all(ring: Ring, n: usize) -> Scan
-    requires { ⌜ n ≤ 256 ⌝ }
-    ensures { λ r. ⌜ r ≡ scanned n ring ⌝ }
+// Internal: marks and lists all InFlight slots of a ring of n. It ends once as many slots that are out are met as the
+// out count says: no slot behind those is InFlight.
+pub fn discard_all(ring: Ring, n: usize) -> ScanResult
+    requires { ⌜ (n ≤ 256) × (outSound n ring ≡ true) ⌝ }
+    ensures { λ r. ⌜ r ≡ record { scan = scanned n ring; looked = pastHighestOut n ring } ⌝ }
 {
-    let mut scan = Scan {
-        ring,
-        slots: no_slots(),
-        count: 0,
-    };
+    let mut marked = ring;
+    let mut slots = no_slots();
+    let mut count: usize = 0;
+    let mut left = ring.in_flight;
+    let mut looked = 0;
     for i in 0..n {
-        scan = scan.look(i);
+        if left == 0 {
+            break;
+        }
+        let state = ring.state(i);
+        if is_out(state) {
+            left -= 1;
+        }
+        if in_flight(state) {
+            marked = marked.mark_discarding(i);
+            slots[count] = i as u8;
+            count += 1;
+        }
+        looked = i + 1;
     }
-    scan
+    ScanResult {
+        scan: Scan {
+            ring: marked,
+            slots,
+            count,
+        },
+        looked,
+    }
 }

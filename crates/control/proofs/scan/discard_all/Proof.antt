@@ -1,46 +1,89 @@
--- `control::scan::discard_all` meets its contract. The loop's invariant: the first i slots are looked at, and at most i are listed.
--- Assumes nothing.
-use Prim.Native.Nat.{_-_, _≤_}
-use mathlib.Core.Path.{_≡_, ap, _∙_}
-use native.Mathlib.Numerals.{add-one}
+-- `control::scan::discard_all` meets its contract. The loop's invariant: the first i slots are looked at; it ends where none that is out
+-- is left, or with the last slot, where none is left either. Assumes nothing.
+use Prim.Native.Nat.{_-_, _<_}
+use mathlib.Core.Path.{_≡_, sym, ap, _∙_}
+use mathlib.Core.Bool.{true, false}
+use mathlib.Core.Logic.{⊎-elim}
 use native.Mathlib.Omega.{arith}
 use borrow.Author.Needs.{needs}
-use Rattle.ring.specs.Parts.{stateOf}
+use Rattle.ring.specs.Slots.{isOut, one}
+use Rattle.ring.proofs.Wide.{Wide, table-long}
 use Rattle.control.specs.Scan.{isInFlight, lookedAt, scanned}
-use Rattle.control.specs.declared.scan.Scan.{Scan}
-use Rattle.control.proofs.Scanned.{looked-few}
+use Rattle.control.proofs.Looked.{Scanning, begun, room, next, all-met, ended}
 use Rattle.control.proofs.scan.discard_all.Statement.{statement}
 use Rattle.control.proofs.scan.discard_all.Tie as tie
 
 abbrev Inv-loop : tie.InvT-loop
-Inv-loop n scan₀ i₀ scan i = (i ≤ n) × (scan .count ≤ i) × (scan ≡ scanned i (scan₀ .ring))
+Inv-loop ring n marked₀ slots₀ count₀ left₀ looked₀ i₀ marked slots count left looked i =
+    Scanning ring n i left looked (record { ring = marked; slots = slots; count = count })
 
 abbrev μ-loop : tie.MeasureT-loop
-μ-loop n scan₀ i₀ scan i = n - i
+μ-loop ring n marked₀ slots₀ count₀ left₀ looked₀ i₀ marked slots count left looked i = n - i
+
+-- at the loop's head: the ring's arrays have their places
+wide : (c : tie.At-loop Inv-loop μ-loop) → Wide (c .before .before .args .ring)
+wide c = let start = c .before .before in record { states = search (needs, table-long); places = search needs }
+
+loop-holds : tie.Need-loop-holds Inv-loop μ-loop
+unfolding scanned
+loop-holds c = rw (c .no-slots .ensures) (begun (c .before .args .ring) (c .before .args .n))
+
+-- fewer are listed than there are places
+few : (c : tie.In-loop Inv-loop μ-loop) → c .before .loop .count < 256
+few c = let at = c .before in omega (arith, room (wide at) (at .before .before .pre .0) (at .loop .inv))
 
 loop-again : tie.Need-loop-again Inv-loop μ-loop
-unfolding scanned
+unfolding one lookedAt
 loop-again c =
-    let at = c .before .before .loop in (
-      search needs,
-      rw (c .look .ensures) (looked-few (isInFlight (stateOf (at .scan .ring) (at .i))) (at .i) (at .scan) (at .inv .1)),
-      c .look .ensures ∙ ap (λ (t : Scan). lookedAt (isInFlight (stateOf (t .ring) (at .i))) (at .i) t) (at .inv .2) ∙ rw add-one,
-    )
+    let listed = c .before in
+    let met = listed .before in
+    let state = met .before .before in
+    let more = state .before in
+    let at = more .before .before in
+    let out = sym (met .before .is-out .ensures ∙ ap isOut (state .state .ensures)) in
+    let flies = sym (listed .in-flight .ensures ∙ ap isInFlight (state .state .ensures)) in
+    let step = next (wide at) (at .before .before .pre .0) (at .loop .inv) (more .before .loop-test .taken) (more .if1 .left) (met .if2 .left) in
+    let counted =
+    ⊎-elim
+    (λ w. step true (out ∙ w .0 .taken) (omega arith))
+    (λ w. step false (out ∙ w .0 .left) (omega arith))
+    (met .if2 .came) in
+    ⊎-elim
+    (λ w. counted _ true (flies ∙ w .0 .taken) (rw (w .2 ∙ w .1 .ensures, w .3, w .4)))
+    (λ w. counted _ false (flies ∙ w .0 .left) (rw (w .1, w .2, w .3)))
+    (c .if3 .came)
 
 returns : tie.Need-returns Inv-loop μ-loop
-returns c = let e : c .before .loop .i ≡ c .before .before .before .args .n = omega arith in rw (← e) (c .before .loop .inv .2)
+returns c =
+    let at = c .before in
+    let pre = at .before .before .pre in
+    ended (wide at) (pre .0) (at .loop .inv) (pre .1) (all-met (wide at) (pre .0) (at .loop .inv) (pre .1) (c .loop-test .left))
+
+returns-2 : tie.Need-returns-2 Inv-loop μ-loop
+returns-2 c =
+    let at = c .before .before in
+    let pre = at .before .before .pre in
+    ended (wide at) (pre .0) (at .loop .inv) (pre .1) (c .if1 .taken)
 
 pub discard-all-spec : {M : Type 1} → statement M
-unfolding scanned
 discard-all-spec =
     tie.close
     (tie.spec
     Inv-loop
     μ-loop
     (λ c κs. search needs)
-    (λ c. (search needs, search needs, rw (c .no-slots .ensures)))
+    loop-holds
     (λ c κs. omega arith)
-    (λ c. search needs)
-    (λ c. search needs)
+    (λ c κs. search needs)
+    (λ c. omega arith)
+    (λ c κs. search needs)
+    (λ c κs. omega arith)
+    (λ c. omega arith)
+    (λ c. few (c .before .before .before .before .before .before .before))
+    (λ c. omega (arith, few (c .before .before .before .before .before .before .before)))
+    (λ c. omega arith)
+    (λ c. omega arith)
+    (λ c. omega arith)
     loop-again
-    returns)
+    returns
+    returns-2)
