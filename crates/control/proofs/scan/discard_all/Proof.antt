@@ -1,7 +1,7 @@
 -- `control::scan::discard_all` meets its contract. The loop's invariant: the first i slots are looked at; it ends where none that is out
 -- is left, or with the last slot, where none is left either. Assumes nothing.
 use Prim.Native.Nat.{_-_, _<_}
-use mathlib.Core.Path.{_≡_, sym, ap, _∙_}
+use mathlib.Core.Path.{sym, ap, _∙_}
 use mathlib.Core.Bool.{true, false}
 use mathlib.Core.Logic.{⊎-elim}
 use native.Mathlib.Omega.{arith}
