@@ -13,7 +13,7 @@ use Rattle.ring.specs.Slots.{isOut, one}
 use Rattle.ring.specs.Counts.{howMany}
 use Rattle.ring.specs.Parts.{stateOf}
 use Rattle.ring.specs.Sound.{outSound}
-use Rattle.ring.proofs.Counts.{last-or-below, count-more}
+use Rattle.ring.proofs.Counts.{last-or-below, count-more, count-grows}
 use Rattle.ring.proofs.Truth.{one-same}
 use Rattle.ring.proofs.Wide.{Wide}
 use Rattle.control.specs.Scan.{isInFlight, lookedAt, scanned, pastHighestOut}
@@ -28,16 +28,6 @@ not-out SlotState.Free e = refl
 not-out SlotState.Filling e = refl
 not-out SlotState.InFlight e = absurd (true≢false e)
 not-out SlotState.Discarding e = refl
-
--- more slots have no fewer that pass
-count-grows : (test : ℕ → Bool) (i n : ℕ) → i ≤ n → howMany i test ≤ howMany n test
-unfolding howMany
-count-grows test i zero h = let e : i ≡ 0 = omega arith in rw e (omega arith)
-count-grows test i (suc n) h =
-    ⊎-elim
-    (λ (e : i ≡ suc n). rw e (omega arith))
-    (λ (l : i < suc n). omega (arith, count-grows test i n (omega arith)))
-    (last-or-below i (suc n) (omega arith))
 
 -- how many of the first i slots are out
 abbrev outBelow : Ring → ℕ → ℕ

@@ -1,4 +1,4 @@
--- What stop's walk leaves when it has looked at the first i slots: the numbers of those InFlight are listed, those slots are Discarding, and
+-- What stop's scan leaves when it has looked at the first i slots: the numbers of those InFlight are listed, those slots are Discarding, and
 -- all else is as it was. By induction on i; one slot more changes the list and the states in one place at most. Assumes nothing.
 use Prim.Native.Nat.{ℕ, zero, suc, _+_, _≤_, _<_}
 use mathlib.Core.Path.{_≡_, refl, sym, ap, _∙_}
@@ -63,7 +63,7 @@ in-flight-append k (home ∷ a) b = in-flight-append (suc k) a b ∙ ap (λ (j :
 in-flight-append k (out ∷ a) b = ap (λ (l : List ℕ). k ∷ l) (in-flight-append (suc k) a b) ∙ ap (λ (j : ℕ). k ∷ inFlightFrom (suc k) a ++ inFlightFrom j b) (omega arith)
 in-flight-append k (discarded ∷ a) b = in-flight-append (suc k) a b ∙ ap (λ (j : ℕ). inFlightFrom (suc k) a ++ inFlightFrom j b) (omega arith)
 
--- what is known of the walk
+-- what is known of the scan
 pub record Walked (ring : Ring) (i : ℕ) (t : Scan) : Type 0 where
   pub few : t .count ≤ i
   pub long : length (t .slots) ≡ 256

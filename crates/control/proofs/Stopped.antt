@@ -1,4 +1,4 @@
--- stop past its gate: the walk's count decides whether the list is long enough, and the record with the walk's ring and both flags off shows
+-- stop past its gate: the scan's count decides whether the list is long enough, and the record with the scan's ring and both flags off shows
 -- the ledger after stop, since each slot's state is that of its mark. Assumes nothing.
 use Prim.Native.Nat.{ℕ, zero, suc, _≤_, _<_}
 use mathlib.Core.Path.{_≡_, refl, sym, ap, _∙_}
@@ -46,7 +46,7 @@ mark-stopped false (discarded ∷ ms) (suc i) = mark-stopped false ms i
 after : Stream → Ledger
 after s = withFlags false false (withMarks (discardAll (view s .marks)) (view s))
 
--- t is what the walk leaves
+-- t is what the scan leaves
 module _ (s : Stream) (ok : sound s ≡ true) (wide : Wide (s .ring)) (t : Scan) (found : t ≡ scanned (s .setup .slots) (s .ring)) where
   seen : Walked (s .ring) (s .setup .slots) t
   seen = rw found (walked (s .ring) wide (s .setup .slots) (facts s ok wide .few))

@@ -45,6 +45,16 @@ module _ (test : ℕ → Bool) where
   unfolding howMany
   count-more i = rw add-one (omega arith)
 
+  -- more slots have no fewer that pass
+  pub count-grows : (i n : ℕ) → i ≤ n → howMany i test ≤ howMany n test
+  unfolding howMany
+  count-grows i zero h = let e : i ≡ 0 = omega arith in rw e (omega arith)
+  count-grows i (suc n) h =
+      ⊎-elim
+      (λ (e : i ≡ suc n). rw e (omega arith))
+      (λ (l : i < suc n). omega (arith, count-grows i n (omega arith)))
+      (last-or-below i (suc n) (omega arith))
+
   pub count-at-most : (n : ℕ) → howMany n test ≤ n
   unfolding howMany
   count-at-most zero = omega arith
