@@ -26,6 +26,24 @@ ghost use Rattle.ledger.specs.Gives.{Gives};
 ghost use Rattle.ledger.specs.Ledger.{withHand};
 ghost use Rattle.ledger.specs.Record.{view};
 ghost use Rattle.ledger.specs.Told.{Told};
+ghost use Rattle.gate.specs.declared.Lent.{Lent};
+ghost use Rattle.gate.specs.Gate.{heldGate};
+
+// Refusals 8, 6 and 9, or the slot in hand.
+fn slot_in_hand(s: Stream, block_len: usize) -> InHand
+    ensures { λ r. ⌜ r ≡ heldGate s (Lent.Block «block_len») ⌝ }
+{
+    let setup = s.setup;
+    let ring = s.ring;
+    let hand = s.hand;
+    let n = setup.slots;
+    let home = ring.home(n);
+    let is_sound = setup.admissible()
+        & ring.hand_sound(n, hand)
+        & ring.out_sound(n, home)
+        & ring.count_sound(n, hand);
+    held_gate(is_sound, setup, hand, Lent::Block(block_len))
+}
 
 // Internal: the most bytes that a slot holds.
 fn slot_capacity(setup: Setup) -> usize
@@ -85,7 +103,7 @@ fn packets_held(s: Stream, i: usize, lengths: &[usize], block: &mut [u8]) -> Rep
 pub fn commit(s: Stream, bytes: usize, block: &mut [u8]) -> Reply
     ensures { λ r. ⌜ Told (Call.commit bytes (now (block .entry))) s (r .answer) (r .stream) (now (block .exit)) ⌝ }
 {
-    match held_gate(s, Lent::Block(block.len())) {
+    match slot_in_hand(s, block.len()) {
         InHand::Slot(i) => commit_held(s, i, bytes, block),
         InHand::Refused(e) => refused(s, e),
     }
@@ -96,7 +114,7 @@ pub fn commit(s: Stream, bytes: usize, block: &mut [u8]) -> Reply
 pub fn commit_full(s: Stream, block: &mut [u8]) -> Reply
     ensures { λ r. ⌜ Told (Call.commitFull (now (block .entry))) s (r .answer) (r .stream) (now (block .exit)) ⌝ }
 {
-    match held_gate(s, Lent::Block(block.len())) {
+    match slot_in_hand(s, block.len()) {
         InHand::Slot(i) => {
             let setup = s.setup;
             let capacity = slot_capacity(setup);
@@ -112,7 +130,7 @@ pub fn commit_packets(s: Stream, lengths: &[usize], block: &mut [u8]) -> Reply
         ⌜ Told (Call.commitPackets (now (lengths .entry)) (now (block .entry)))
         s (r .answer) (r .stream) (now (block .exit)) ⌝ }
 {
-    match held_gate(s, Lent::Block(block.len())) {
+    match slot_in_hand(s, block.len()) {
         InHand::Slot(i) => packets_held(s, i, lengths, block),
         InHand::Refused(e) => refused(s, e),
     }

@@ -1,4 +1,3 @@
 pub mod Unmoved
-pub mod Scanned
-pub mod Looked
+pub mod InFlight
 pub mod Stopped

@@ -1,5 +1,5 @@
 // The calls that are lent no block and take no reply of the kernel: give_back, start, stop, finish.
-mod scan;
+mod listed;
 
 use error::Error;
 use gate::Gate;
@@ -9,8 +9,8 @@ use gate::held_gate;
 use gate::idle_gate;
 use gate::put_back;
 use gate::refused;
+use listed::write_list;
 use ring::Ring;
-use scan::discard_all;
 use stream::Answer;
 use stream::Flags;
 use stream::Reply;
@@ -33,7 +33,8 @@ fn with_flags(s: Stream, ring: Ring, flags: Flags) -> Stream
 pub fn give_back(s: Stream) -> Reply
     ensures { λ r. ⌜ Told Call.giveBack s (r .answer) (r .stream) [] ⌝ }
 {
-    match held_gate(s, Lent::Nothing) {
+    let hand = s.hand;
+    match held_gate(s.sound(), s.setup, hand, Lent::Nothing) {
         InHand::Slot(i) => put_back(s, i, Answer::Done),
         InHand::Refused(e) => refused(s, e),
     }
@@ -44,7 +45,8 @@ pub fn give_back(s: Stream) -> Reply
 pub fn start(s: Stream) -> Reply
     ensures { λ r. ⌜ Told Call.start s (r .answer) (r .stream) [] ⌝ }
 {
-    match idle_gate(s, Lent::Nothing) {
+    let hand = s.hand;
+    match idle_gate(s.sound(), s.setup, hand, Lent::Nothing) {
         Gate::Refused(e) => refused(s, e),
         Gate::Open => {
             let flags = s.flags;
@@ -69,22 +71,22 @@ pub fn start(s: Stream) -> Reply
 pub fn stop(s: Stream, list: &mut [usize]) -> Reply
     ensures { λ r. ⌜ Told (Call.stop (now (list .entry))) s (r .answer) (r .stream) (now (list .exit)) ⌝ }
 {
-    match idle_gate(s, Lent::Nothing) {
+    let hand = s.hand;
+    match idle_gate(s.sound(), s.setup, hand, Lent::Nothing) {
         Gate::Refused(e) => refused(s, e),
         Gate::Open => {
-            let setup = s.setup;
-            let found = discard_all(s.ring, setup.slots);
-            let scan = found.scan;
-            let marked = scan.ring;
-            let count = scan.count;
+            let ring = s.ring;
+            let states = ring.states;
+            let listed = states.in_flight.list();
+            let count = listed.count;
             if list.len() < count {
                 return refused(s, Error::ListTooShort);
             }
-            scan.write_list(list);
+            write_list(listed, list);
             Reply {
                 stream: with_flags(
                     s,
-                    marked,
+                    ring.mark_discarding(),
                     Flags {
                         started: false,
                         armed: false,
@@ -100,7 +102,8 @@ pub fn stop(s: Stream, list: &mut [usize]) -> Reply
 pub fn finish(s: Stream) -> Reply
     ensures { λ r. ⌜ Told Call.finish s (r .answer) (r .stream) [] ⌝ }
 {
-    match idle_gate(s, Lent::Nothing) {
+    let hand = s.hand;
+    match idle_gate(s.sound(), s.setup, hand, Lent::Nothing) {
         Gate::Refused(e) => refused(s, e),
         Gate::Open => {
             let ring = s.ring;

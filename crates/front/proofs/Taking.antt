@@ -1,12 +1,12 @@
 -- The front slot: what taking finds says what stands in the queue, and the record with the ring after the taking and a hand with that slot
 -- shows the ledger after it. Assumes nothing.
 use mathlib.Core.Path.{_≡_, refl, sym, ap, subst, _∙_}
-use mathlib.Core.Bool.{true}
+use mathlib.Core.Bool.{true, false≢true}
 use mathlib.Core.List.{List, [], _∷_}
 use Prim.Native.Nat.{ℕ, _<_}
 use native.Mathlib.Omega.{arith}
 use lib.Dec.{eqb}
-use Rattle.layout.specs.Opening.{capacityOf}
+use borrow.Author.Tests.{eqb-true}
 use Rattle.ring.specs.declared.Found.{Found}
 use Rattle.ring.specs.declared.Hand.{Hand}
 use Rattle.ring.specs.declared.Ring.{Ring}
@@ -22,7 +22,6 @@ use Rattle.stream.specs.declared.Reply.{Reply}
 use Rattle.stream.specs.declared.Stream.{Stream}
 use Rattle.stream.specs.Parts.{withState}
 use Rattle.stream.specs.Sound.{sound}
-use Rattle.ledger.specs.Slot.{lengthsOf, committed, silenced}
 use Rattle.ledger.specs.Ledger.{Ledger, withHand, withQueue}
 use Rattle.ledger.specs.Record.{view, stored}
 use Rattle.ledger.specs.Turn.{takeFront, silenceFront}
@@ -30,6 +29,7 @@ use Rattle.ledger.proofs.Calls.{gives-lent}
 use Rattle.ledger.proofs.Rings.{ring-taken}
 use Rattle.ledger.proofs.View.{facts, stored-view}
 use Rattle.ledger.specs.Gives.{Gives}
+use Rattle.front.specs.Front.{takeSilent, afterSilence}
 
 -- slot i stood first in the queue, and has left it
 record Front (ring : Ring) (t : Taken) (i : ℕ) : Type 0 where
@@ -76,10 +76,10 @@ module _ (s : Stream) (ok : sound s ≡ true) (wide : Wide (s .ring)) (idle : s 
         subst (λ (q : List ℕ). Gives s (takeFront q (view s) []) r []) (sym (empty-of (s .ring) t e found))
         (record { answer = a; stream = p ∙ unmoved; block = refl })
 
-    pub silenced-nothing : (left : ℕ) (block : List ℕ) → Gives s (silenceFront (s .setup) left (view s .queue) (view s) block) r block
-    unfolding silenceFront takeFront view
-    silenced-nothing left block =
-        subst (λ (q : List ℕ). Gives s (silenceFront (s .setup) left q (view s) block) r block) (sym (empty-of (s .ring) t e found))
+    pub silent-nothing : (left : ℕ) → Gives s (takeSilent left (view s .queue) (view s)) r []
+    unfolding takeSilent takeFront view
+    silent-nothing left =
+        subst (λ (q : List ℕ). Gives s (takeSilent left q (view s)) r []) (sym (empty-of (s .ring) t e found))
         (record { answer = a; stream = p ∙ unmoved; block = refl })
 
   module _ (i : ℕ) (found : t .slot ≡ Found.Slot i) where
@@ -103,11 +103,36 @@ module _ (s : Stream) (ok : sound s ≡ true) (wide : Wide (s .ring)) (idle : s 
         subst (λ (q : List ℕ). Gives s (takeFront q (view s) []) r []) (sym (front .queue))
         (record { answer = a; stream = p ∙ handed (Hand.Held i) (λ j. refl); block = refl })
 
-    pub silenced-slot : (left : ℕ) (block after : List ℕ) (r : Reply) → r .answer ≡ Answer.Submit i → r .stream ≡ withState s (t .ring) (Hand.Silent i left) (s .flags) (s .stats) → after ≡ committed (s .setup) i (lengthsOf (s .setup) (capacityOf (s .setup))) (silenced (s .setup) i block) → Gives s (silenceFront (s .setup) left (view s .queue) (view s) block) r after
-    unfolding silenceFront view holds
-    silenced-slot left block after r a p b =
-        subst (λ (q : List ℕ). Gives s (silenceFront (s .setup) left q (view s) block) r after) (sym (front .queue))
-        (record { answer = a; stream = p ∙ handed (Hand.Silent i left) (λ j. refl); block = b })
+    pub silent-slot : (left : ℕ) (r : Reply) → r .answer ≡ Answer.Submit i → r .stream ≡ withState s (t .ring) (Hand.Silent i left) (s .flags) (s .stats) → Gives s (takeSilent left (view s .queue) (view s)) r []
+    unfolding takeSilent view holds
+    silent-slot left r a p =
+        subst (λ (q : List ℕ). Gives s (takeSilent left q (view s)) r []) (sym (front .queue))
+        (record { answer = a; stream = p ∙ handed (Hand.Silent i left) (λ j. refl); block = refl })
+
+-- the slot taken, then silenced
+module _ (s : Stream) (ok : sound s ≡ true) (wide : Wide (s .ring)) (left : ℕ) (r : Reply) (g : Gives s (takeSilent left (view s .queue) (view s)) r []) where
+  hand-after : r .stream .hand ≡ takeSilent left (view s .queue) (view s) .ledger .hand
+  unfolding stored withState
+  hand-after = ap (λ (x : Stream). x .hand) (g .stream)
+
+  -- a slot in the new hand is one of the n
+  pub silent-below : (i : ℕ) → holds (r .stream .hand) i ≡ true → i < s .setup .slots
+  unfolding view takeSilent takeFront withHand holds
+  silent-below i held = go (queueOf (s .ring)) refl (ap (λ (h : Hand). holds h i) (sym hand-after) ∙ held)
+    where
+      go : (q : List ℕ) → queueOf (s .ring) ≡ q → holds (takeSilent left q (view s) .ledger .hand) i ≡ true → i < s .setup .slots
+      go [] p h = absurd (false≢true h)
+      go (j ∷ rest) p h = let z = eqb-true j i h in rw (← z) (front-free (facts s ok wide) j rest p .0)
+
+  pub silenced-front : (block after : List ℕ) → after ≡ afterSilence (s .setup) (r .stream .hand) block → Gives s (silenceFront (s .setup) left (view s .queue) (view s) block) r after
+  unfolding takeSilent silenceFront takeFront withHand afterSilence
+  silenced-front block after e =
+      go (view s .queue) (g .answer) (g .stream) (e ∙ ap (λ (h : Hand). afterSilence (s .setup) h block) hand-after)
+    where
+      go : (q : List ℕ) → r .answer ≡ takeSilent left q (view s) .answer → r .stream ≡ stored s (takeSilent left q (view s) .ledger)
+          → after ≡ afterSilence (s .setup) (takeSilent left q (view s) .ledger .hand) block → Gives s (silenceFront (s .setup) left q (view s) block) r after
+      go [] a p b = record { answer = a; stream = p; block = b }
+      go (i ∷ rest) a p b = record { answer = a; stream = p; block = b }
 
 -- the taking leaves any block as it was
 took-same : (q : List ℕ) (l : Ledger) (x : List ℕ) → (takeFront q l [] .answer ≡ takeFront q l x .answer) × (takeFront q l [] .ledger ≡ takeFront q l x .ledger) × (x ≡ takeFront q l x .lent)

@@ -10,13 +10,14 @@ use lib.ListN.{length}
 use borrow.Author.Tests.{eqb-true, eq-eqb}
 use Rattle.error.specs.declared.Error.{Error}
 use Rattle.layout.specs.declared.Setup.{Setup}
-use Rattle.layout.specs.Opening.{totalOf}
+use Rattle.layout.specs.Opening.{admissible, totalOf}
 use Rattle.ring.specs.declared.Hand.{Hand}
 use Rattle.ring.proofs.Wide.{Wide}
 use Rattle.stream.specs.declared.Answer.{Answer}
 use Rattle.stream.specs.declared.Reply.{Reply}
 use Rattle.stream.specs.declared.Stream.{Stream}
 use Rattle.stream.specs.Sound.{sound}
+use Rattle.stream.proofs.Soundness.{setup-admissible}
 use Rattle.ledger.specs.Ledger.{Ledger}
 use Rattle.ledger.specs.Step.{Next, Rule, refused, onBlock, byIdle, whenIdle, byHeld, whenHeld}
 use Rattle.ledger.specs.Record.{view}
@@ -27,7 +28,7 @@ use Rattle.ledger.proofs.Calls.{told-unsound, told-gives, gives-refused}
 use Rattle.gate.specs.declared.Gate.{Gate}
 use Rattle.gate.specs.declared.InHand.{InHand}
 use Rattle.gate.specs.declared.Lent.{Lent}
-use Rattle.gate.specs.Gate.{andThen, soundGate, lengthGate, blockGate, idleHand, idleGate, heldHand, thenHeld, heldGate}
+use Rattle.gate.specs.Gate.{andThen, soundGate, lengthGate, blockTest, blockGate, idleHand, idleTest, idleGate, heldHand, thenHeld, heldTest, heldGate}
 
 -- a rule behind 6, where a block is lent
 abbrev pub behind : Lent → Rule → Rule
@@ -69,10 +70,28 @@ length-fits (Lent.Block len) s x long p = by (eqb len (totalOf s)) refl p
     by false q r = let z : _≡_ {A = ℕ} 0 1 = cc in absurd (omega arith)
 length-fits Lent.Nothing s x long p = tt
 
+module _ (s : Stream) (lent : Lent) {ok : Bool} (test : ok ≡ sound s) where
+  -- what a gate asks
+  pub gate-asks : ok ≡ true → admissible (s .setup) ≡ true
+  gate-asks p = setup-admissible s (sym test ∙ p)
+
+  -- a gate that goes by the record's own test
+  pub block-is : {g : Gate} → g ≡ blockTest ok (s .setup) lent → g ≡ blockGate s lent
+  unfolding blockGate
+  block-is e = e ∙ ap (λ (b : Bool). blockTest b (s .setup) lent) test
+
+  pub idle-is : {g : Gate} → g ≡ idleTest ok (s .setup) (s .hand) lent → g ≡ idleGate s lent
+  unfolding idleGate
+  idle-is e = e ∙ ap (λ (b : Bool). idleTest b (s .setup) (s .hand) lent) test
+
+  pub held-is : {g : InHand} → g ≡ heldTest ok (s .setup) (s .hand) lent → g ≡ heldGate s lent
+  unfolding heldGate
+  held-is e = e ∙ ap (λ (b : Bool). heldTest b (s .setup) (s .hand) lent) test
+
 module _ (s : Stream) (lent : Lent) where
   -- 8 and 6 passed
   pub block-open : (x : List ℕ) → Lends lent x → blockGate s lent ≡ Gate.Open → (sound s ≡ true) × Fits lent (s .setup) x
-  unfolding blockGate soundGate andThen
+  unfolding blockGate blockTest soundGate andThen
   block-open x long p = by (sound s) refl p
     where
       by : (b : Bool) → sound s ≡ b → andThen (cond b Gate.Open (Gate.Refused Error.Unsound)) (lengthGate (s .setup) lent) ≡ Gate.Open → (sound s ≡ true) × Fits lent (s .setup) x
@@ -80,7 +99,7 @@ module _ (s : Stream) (lent : Lent) where
       by false q r = let z : _≡_ {A = ℕ} 0 1 = cc in absurd (omega arith)
 
   pub idle-open : (x : List ℕ) → Lends lent x → idleGate s lent ≡ Gate.Open → (sound s ≡ true) × (s .hand ≡ Hand.Idle) × Fits lent (s .setup) x
-  unfolding idleGate andThen idleHand
+  unfolding idleGate idleTest blockGate andThen idleHand
   idle-open x long p = by (blockGate s lent) (s .hand) refl refl p
     where
       by : (g : Gate) (h : Hand) → blockGate s lent ≡ g → s .hand ≡ h → andThen g (idleHand h) ≡ Gate.Open → (sound s ≡ true) × (s .hand ≡ Hand.Idle) × Fits lent (s .setup) x
@@ -91,7 +110,7 @@ module _ (s : Stream) (lent : Lent) where
       by (Gate.Refused e) h q r t = let z : _≡_ {A = ℕ} 0 1 = cc in absurd (omega arith)
 
   pub held-open : (x : List ℕ) → Lends lent x → (i : ℕ) → heldGate s lent ≡ InHand.Slot i → (sound s ≡ true) × (s .hand ≡ Hand.Held i) × Fits lent (s .setup) x
-  unfolding heldGate thenHeld heldHand
+  unfolding heldGate heldTest blockGate thenHeld heldHand
   held-open x long i p = by (blockGate s lent) (s .hand) refl refl p
     where
       by : (g : Gate) (h : Hand) → blockGate s lent ≡ g → s .hand ≡ h → thenHeld g h ≡ InHand.Slot i → (sound s ≡ true) × (s .hand ≡ Hand.Held i) × Fits lent (s .setup) x
@@ -120,7 +139,7 @@ module _ (s : Stream) (lent : Lent) where
 
     -- 8 or 6
     pub block-refused : Wide (s .ring) → (e : Error) → blockGate s lent ≡ Gate.Refused e → Told c s (Answer.Refused e) s (lentTo c)
-    unfolding blockGate soundGate andThen stepOf
+    unfolding blockGate blockTest soundGate andThen stepOf
     block-refused wide e p = by (sound s) refl p
       where
         by : (b : Bool) → sound s ≡ b → andThen (cond b Gate.Open (Gate.Refused Error.Unsound)) (lengthGate (s .setup) lent) ≡ Gate.Refused e → Told c s (Answer.Refused e) s (lentTo c)
@@ -138,7 +157,7 @@ module _ (s : Stream) (lent : Lent) where
 -- a call on an Idle hand
 module _ (s : Stream) (lent : Lent) (c : Call) (idle : Rule) (is : rule c ≡ behind lent (whenIdle idle)) (long : Lends lent (lentTo c)) where
   pub idle-refused : Wide (s .ring) → (e : Error) → idleGate s lent ≡ Gate.Refused e → (r : Reply) → r ≡ record { stream = s; answer = Answer.Refused e } → Told c s (r .answer) (r .stream) (lentTo c)
-  unfolding idleGate andThen idleHand whenIdle byIdle view
+  unfolding idleGate idleTest blockGate andThen idleHand whenIdle byIdle view
   idle-refused wide e p r f = rw f (by (blockGate s lent) (s .hand) refl refl p)
     where
       wrong : (h : Hand) → blockGate s lent ≡ Gate.Open → s .hand ≡ h → ((next wrong : Next) → byIdle h next wrong ≡ wrong) → Error.WrongHand ≡ e → Told c s (Answer.Refused e) s (lentTo c)
@@ -160,7 +179,7 @@ module _ (s : Stream) (lent : Lent) (c : Call) (idle : Rule) (is : rule c ≡ be
 -- a call on a Held hand
 module _ (s : Stream) (lent : Lent) (c : Call) (held : ℕ → Rule) (is : rule c ≡ behind lent (whenHeld held)) (long : Lends lent (lentTo c)) where
   pub held-refused : Wide (s .ring) → (e : Error) → heldGate s lent ≡ InHand.Refused e → (r : Reply) → r ≡ record { stream = s; answer = Answer.Refused e } → Told c s (r .answer) (r .stream) (lentTo c)
-  unfolding heldGate thenHeld heldHand whenHeld byHeld view
+  unfolding heldGate heldTest blockGate thenHeld heldHand whenHeld byHeld view
   held-refused wide e p r f = rw f (by (blockGate s lent) (s .hand) refl refl p)
     where
       wrong : (h : Hand) → blockGate s lent ≡ Gate.Open → s .hand ≡ h → ((next : ℕ → Next) (wrong : Next) → byHeld h next wrong ≡ wrong) → Error.WrongHand ≡ e → Told c s (Answer.Refused e) s (lentTo c)

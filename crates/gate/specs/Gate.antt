@@ -1,6 +1,6 @@
 -- The first tests of every call: 8, then 6 for a block of the wrong length, then 9 for a wrong hand. Only internal functions promise these;
 -- the calls promise their rules.
-use mathlib.Core.Bool.{cond}
+use mathlib.Core.Bool.{Bool, cond}
 use lib.Dec.{eqb}
 use Rattle.error.specs.declared.Error.{Error}
 use Rattle.layout.specs.declared.Setup.{Setup}
@@ -17,9 +17,9 @@ unfoldable pub andThen : Gate → Gate → Gate
 andThen Gate.Open next = next
 andThen (Gate.Refused e) next = Gate.Refused e
 
--- 8.
-unfoldable pub soundGate : Stream → Gate
-soundGate s = cond (sound s) Gate.Open (Gate.Refused Error.Unsound)
+-- 8, by whether the record is sound.
+unfoldable pub soundGate : Bool → Gate
+soundGate ok = cond ok Gate.Open (Gate.Refused Error.Unsound)
 
 -- 6 for a block of the wrong length.
 unfoldable pub lengthGate : Setup → Lent → Gate
@@ -27,8 +27,11 @@ lengthGate s (Lent.Block len) = cond (eqb len (totalOf s)) Gate.Open (Gate.Refus
 lengthGate s Lent.Nothing = Gate.Open
 
 -- 8, then 6.
+unfoldable pub blockTest : Bool → Setup → Lent → Gate
+blockTest ok s lent = andThen (soundGate ok) (lengthGate s lent)
+
 unfoldable pub blockGate : Stream → Lent → Gate
-blockGate s lent = andThen (soundGate s) (lengthGate (s .setup) lent)
+blockGate s lent = blockTest (sound s) (s .setup) lent
 
 -- 9 for a hand that isn't Idle.
 unfoldable pub idleHand : Hand → Gate
@@ -38,8 +41,11 @@ idleHand (Hand.Sending i) = Gate.Refused Error.WrongHand
 idleHand (Hand.Silent i left) = Gate.Refused Error.WrongHand
 
 -- 8, 6, 9.
+unfoldable pub idleTest : Bool → Setup → Hand → Lent → Gate
+idleTest ok s hand lent = andThen (blockTest ok s lent) (idleHand hand)
+
 unfoldable pub idleGate : Stream → Lent → Gate
-idleGate s lent = andThen (blockGate s lent) (idleHand (s .hand))
+idleGate s lent = idleTest (sound s) (s .setup) (s .hand) lent
 
 -- 9 for a hand that isn't Held, or its slot.
 unfoldable pub heldHand : Hand → InHand
@@ -52,5 +58,8 @@ unfoldable pub thenHeld : Gate → Hand → InHand
 thenHeld Gate.Open hand = heldHand hand
 thenHeld (Gate.Refused e) hand = InHand.Refused e
 
+unfoldable pub heldTest : Bool → Setup → Hand → Lent → InHand
+heldTest ok s hand lent = thenHeld (blockTest ok s lent) hand
+
 unfoldable pub heldGate : Stream → Lent → InHand
-heldGate s lent = thenHeld (blockGate s lent) (s .hand)
+heldGate s lent = heldTest (sound s) (s .setup) (s .hand) lent

@@ -17,3 +17,4 @@ pub mod Runs
 pub mod Logs
 pub mod Holds
 pub mod Demand3
+pub mod Table

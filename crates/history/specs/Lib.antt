@@ -3,3 +3,4 @@ pub mod Log
 pub mod Words
 pub mod Sums
 pub mod Demand3
+pub mod Table

@@ -26,7 +26,7 @@ use Rattle.ring.specs.Parts.{ringWith}
 use Rattle.ring.specs.Slots.{one, handWithin}
 use Rattle.ring.proofs.Counts.{below-at}
 use Rattle.encoding.proofs.StateNumbers.{state-small}
-use Rattle.ring.proofs.Made.{made-same}
+use Rattle.ring.proofs.Restored.{made-same}
 use Rattle.ring.proofs.Numbers.{table-long, table-at}
 use Rattle.encoding.proofs.StateNumbers.{state-back}
 use Rattle.ring.proofs.Truth.{first, second, one-at-most}

@@ -10,9 +10,8 @@ use lib.Seq.{length-take-le, take-append-le, getD-take, ext-getD}
 use Rattle.layout.specs.declared.Setup.{Setup}
 use Rattle.layout.specs.Opening.{admissible}
 use Rattle.ring.specs.declared.Ring.{Ring}
-use Rattle.ring.proofs.Made.{made-len, made-out}
 use Rattle.ring.proofs.Numbers.{table-at}
-use Rattle.ring.proofs.Restored.{with-queue, with-state, with-wide}
+use Rattle.ring.proofs.Restored.{made-len, made-out, with-none, with-queue, with-state, with-tabled, with-wide}
 use Rattle.ring.proofs.Truth.{both, first}
 use Rattle.ring.proofs.Wide.{Wide}
 use Rattle.stream.specs.declared.Stream.{Stream}
@@ -59,7 +58,7 @@ module _ (s : Setup) (l : Ledger) (v : Valid (s .slots) l) where
       let used = length (l .queue) in
       let short = queue-fits l n v in
       ap (λ (r : Ring). withState (recordOf s l) r (l .hand) (record { started = l .started; armed = l .armed }) (l .totals))
-      (ring-stores l n v (recordOf s l .ring) recordOf-wide
+      (ring-stores l n v (recordOf s l .ring) recordOf-wide (with-tabled n (stateIn l) free used) (with-none n (stateIn l) free used)
       (rw (made-len n (stateIn l) free used) (omega (arith, short, v .few)))
       (with-queue n (stateIn l) free used ∙ places-used n (l .queue) (replicate (256 - n) 0) short)
       (with-state n (stateIn l) free used (v .few))

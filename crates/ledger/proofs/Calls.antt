@@ -8,10 +8,11 @@ use native.Mathlib.Omega.{arith}
 use lib.ListN.{length, drop}
 use Rattle.error.specs.declared.Error.{Error}
 use Rattle.ring.specs.declared.Ring.{Ring}
-use Rattle.ring.specs.Parts.{queueOf, withQueue, withOut, stateOf}
+use Rattle.ring.specs.Masks.{masksOf, firstOf}
+use Rattle.ring.specs.Parts.{queueOf, withQueue, withMasks, withStates, withOut}
 use Rattle.ring.proofs.Queue.{queue-kept}
-use Rattle.ring.proofs.States.{Parts, kept-wide, states-wide, states-parts, state-kept, state-above, state-below}
-use Rattle.ring.proofs.Wide.{Wide, StatesWide}
+use Rattle.ring.proofs.States.{states-parts}
+use Rattle.ring.proofs.Wide.{Wide}
 use Rattle.stream.specs.declared.Answer.{Answer}
 use Rattle.stream.specs.declared.Reply.{Reply}
 use Rattle.stream.specs.declared.Stream.{Stream}
@@ -25,7 +26,7 @@ use Rattle.ledger.specs.Record.{view, ringFor, stored, call}
 use Rattle.ledger.specs.Calls.{Call, lentTo, stepOf, made}
 use Rattle.ledger.specs.Told.{Told}
 use Rattle.ledger.specs.Gives.{Gives}
-use Rattle.ledger.proofs.View.{facts, ring-shows, stored-view}
+use Rattle.ledger.proofs.View.{facts, stored-view}
 
 module _ (c : Call) (s : Stream) where
   -- what is promised of the answer's numbers is promised of the answer
@@ -72,43 +73,29 @@ module _ (s : Stream) (ok : sound s ≡ true) (wide : Wide (s .ring)) (l l' : Le
   n : ℕ
   n = s .setup .slots
 
-  -- the ring after the first, and what the second is put into
+  -- the ring after the first
   once : Ring
   once = ringFor n (s .ring) l
-
-  base : Ring
-  base = withOut (withQueue once (l' .queue)) (outs (l' .marks))
-
-  once-wide : StatesWide once
-  unfolding once ringFor
-  once-wide = states-wide (stateIn l) _ n (kept-wide (s .ring) (l .queue) (outs (l .marks)) (wide .states))
-
-  base-wide : StatesWide base
-  unfolding base
-  base-wide = kept-wide once (l' .queue) (outs (l' .marks)) once-wide
 
   -- the queue's places are as they were
   places : once .free ≡ s .ring .free
   unfolding once ringFor withOut withQueue
   places =
-      states-parts (stateIn l) _ n .free ∙
+      states-parts (stateIn l) n _ .free ∙
       rw e (ap (λ (r : Ring). r .free) (queue-kept (s .ring) (omega (arith, facts s ok wide .short, wide .places))))
 
   again : ringFor n once l' ≡ ringFor n (s .ring) l'
-  unfolding ringFor once base withQueue withOut n
+  unfolding ringFor withStates withMasks withQueue withOut
   again =
-      let parts = states-parts (stateIn l') base n in
-      sym
-      (ring-shows s ok wide l' (ringFor n once l') (states-wide (stateIn l') base n base-wide)
-      (λ j h. state-below (stateIn l') base base-wide n (facts s ok wide .few) j h)
-      (λ j h. state-above (stateIn l') base n j h ∙ above j h)
-      (record { free = parts .free ∙ ap (λ (q : List ℕ). l' .queue ++ drop (length (l' .queue)) q) places; len = parts .len; out = parts .out }))
-    where
-      above : (j : ℕ) → n ≤ j → stateOf base j ≡ stateOf (s .ring) j
-      above j h =
-          state-kept once (l' .queue) (outs (l' .marks)) j ∙
-          state-above (stateIn l) _ n j h ∙
-          state-kept (s .ring) (l .queue) (outs (l .marks)) j
+      ap
+      (λ (free : List ℕ).
+      record {
+        states = masksOf (firstOf n (stateIn l'));
+        free = l' .queue ++ drop (length (l' .queue)) free;
+        «free_len» = length (l' .queue);
+        «in_flight» = outs (l' .marks);
+      })
+      places
 
   pub stored-again : stored (stored s l) l' ≡ stored s l'
   unfolding stored withState once n

@@ -9,7 +9,7 @@ use Rattle.ring.specs.declared.Hand.{Hand}
 use Rattle.ring.specs.declared.Ring.{Ring}
 use Rattle.ring.specs.declared.SlotState.{SlotState}
 use Rattle.ring.specs.Moves.{returned as Ring·returned}
-use Rattle.ring.specs.Parts.{stateOf}
+use Rattle.ring.specs.Parts.{stateOf, Tabled}
 use Rattle.ring.specs.Slots.{isFree, isOut, holds}
 use Rattle.ring.proofs.Hands.{held-below, held-only}
 use Rattle.ring.proofs.Pigeonhole.{room, out-room}
@@ -21,7 +21,7 @@ use Rattle.stream.specs.Sound.{sound}
 use Rattle.ledger.specs.Ledger.{withHand, withQueue, withMarks, marked, returned}
 use Rattle.ledger.specs.Record.{view, stored}
 use Rattle.ledger.proofs.Rings.{ring-back}
-use Rattle.ledger.proofs.View.{facts}
+use Rattle.ledger.proofs.View.{facts, own-tabled}
 
 pub holding : (h : Hand) (i : ℕ) → h ≡ Hand.Held i → holds h i ≡ true
 unfolding holds
@@ -46,18 +46,18 @@ module _ (s : Stream) (ok : sound s ≡ true) (wide : Wide (s .ring)) (i : ℕ) 
   filling = filling-is (stateOf (s .ring) i) (facts s ok wide .held i slot-below ∙ held)
 
   -- what release asks
-  pub queue-room : (i < 256) × (s .ring .«free_len» < 256)
+  pub queue-room : (i < 256) × (s .ring .«free_len» < 256) × Tabled (s .ring) × (stateOf (s .ring) i ≡ SlotState.Filling)
   queue-room =
       let n = facts s ok wide .few in
       let short = room (facts s ok wide) wide i slot-below (ap isFree filling ∙ filling-not-free) in
-      (omega (arith, n, slot-below), omega (arith, n, short))
+      (omega (arith, n, slot-below), omega (arith, n, short), own-tabled s ok wide, filling)
 
   -- what mark_in_flight asks
-  pub out-count-room : (i < 256) × (s .ring .«in_flight» < 256)
+  pub out-count-room : (i < 256) × (s .ring .«in_flight» < 256) × Tabled (s .ring) × (stateOf (s .ring) i ≡ SlotState.Filling)
   out-count-room =
       let n = facts s ok wide .few in
       let short = out-room (facts s ok wide) i slot-below (ap isOut filling ∙ filling-not-out) in
-      (omega (arith, n, slot-below), omega (arith, n, short))
+      (omega (arith, n, slot-below), omega (arith, n, short), own-tabled s ok wide, filling)
 
   -- the slot released and the hand Idle
   pub returned-stored : withState s (Ring·returned (s .ring) i) Hand.Idle (s .flags) (s .stats) ≡ stored s (withHand Hand.Idle (returned i (view s)))

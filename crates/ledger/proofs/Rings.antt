@@ -13,7 +13,7 @@ use Rattle.ring.specs.declared.Hand.{Hand}
 use Rattle.ring.specs.declared.Ring.{Ring}
 use Rattle.ring.specs.declared.SlotState.{SlotState}
 use Rattle.ring.specs.Moves.{returned, markedInFlight, completed}
-use Rattle.ring.specs.Parts.{queueOf, stateOf, withQueue, withOut, withState}
+use Rattle.ring.specs.Parts.{queueOf, stateOf, withQueue, withOut, withMasks, withState}
 use Rattle.ring.specs.Slots.{holds}
 use Rattle.ring.proofs.Pigeonhole.{front-free}
 use Rattle.ring.proofs.Queue.{queue-kept}
@@ -49,16 +49,16 @@ outs-set (discarded ∷ ms) (suc i) m h = omega (arith, outs-set ms i m (omega a
 
 -- the out count as it was
 settle : (r : Ring) (i : ℕ) (q q' : List ℕ) (x x' : SlotState) (k : ℕ) → q ≡ q' → x ≡ x' → k ≡ r .«in_flight» → withOut (withState (withQueue r q) i x) k ≡ withState (withQueue r q') i x'
-unfolding withOut withState withQueue
+unfolding withOut withState withMasks withQueue stateOf
 settle r i q q' x x' k a b c = rw (a, b, c)
 
 settle-out : (r : Ring) (i : ℕ) (q : List ℕ) (k : ℕ) → r .«free_len» ≤ 256 → Wide r → q ≡ queueOf r → k ≡ r .«in_flight» + 1 → withOut (withState (withQueue r q) i (slotState false out)) k ≡ markedInFlight r i
-unfolding markedInFlight withOut withState slotState
+unfolding markedInFlight withOut withState withMasks stateOf slotState
 settle-out r i q k short wide a b =
     rw (a, queue-kept r (omega (arith, wide .places)), b)
 
 settle-less : (r : Ring) (i : ℕ) (q : List ℕ) (k : ℕ) → q ≡ queueOf r ++ (i ∷ []) → k ≡ r .«in_flight» - 1 → withOut (withState (withQueue r q) i (slotState false home)) k ≡ completed r i
-unfolding completed returned withOut withState withQueue queueOf slotState
+unfolding completed returned withOut withState withMasks withQueue queueOf stateOf slotState
 settle-less r i q k a b = rw (a, b)
 
 state-home : slotState false home ≡ SlotState.Free

@@ -7,13 +7,14 @@ use mathlib.Core.Path.{_≡_, sym, ap, ap₂, _∙_}
 use mathlib.Core.Bool.{true}
 use Rattle.layout.specs.Opening.{admissible}
 use Rattle.ring.specs.declared.Ring.{Ring}
+use Rattle.ring.specs.declared.SlotState.{SlotState}
 use Rattle.ring.specs.Counts.{howMany}
-use Rattle.ring.specs.Parts.{queueOf, stateOf, withQueue, withOut}
+use Rattle.ring.specs.Parts.{queueOf, stateOf, Tabled, withQueue, withOut}
 use Rattle.ring.specs.Slots.{isOut}
 use Rattle.ring.proofs.Counts.{count-same}
 use Rattle.ring.proofs.Numbers.{table-same}
 use Rattle.ring.proofs.Queue.{queue-kept}
-use Rattle.ring.proofs.States.{Parts, state-kept, states-parts, state-above, ring-same}
+use Rattle.ring.proofs.States.{Parts, states-tabled, states-parts, state-above, ring-same}
 use Rattle.ring.proofs.Wide.{Wide}
 use Rattle.stream.specs.declared.Stream.{Stream}
 use Rattle.stream.specs.Sound.{sound}
@@ -48,10 +49,10 @@ module _ (s : Stream) (l : Ledger) (v : Valid (s .setup .slots) l) (ok : admissi
 
 -- a ring with a valid ledger's queue and states and the true out count
 module _ (l : Ledger) (n : ℕ) (v : Valid n l) (r : Ring) (wide : Wide r) where
-  pub ring-stores : r .«free_len» ≤ 256 → queueOf r ≡ l .queue → ((i : ℕ) → i < n → stateOf r i ≡ stateIn l i) → r .«in_flight» ≡ howMany n (λ i. isOut (stateOf r i)) → ringFor n r l ≡ r
+  pub ring-stores : Tabled r → ((i : ℕ) → n ≤ i → stateOf r i ≡ SlotState.Free) → r .«free_len» ≤ 256 → queueOf r ≡ l .queue → ((i : ℕ) → i < n → stateOf r i ≡ stateIn l i) → r .«in_flight» ≡ howMany n (λ i. isOut (stateOf r i)) → ringFor n r l ≡ r
   unfolding ringFor withOut
-  ring-stores short queue states out =
-      ring-same (ringFor n r l) r (shown-wide l n v r wide .states) (wide .states) (λ i. at i (decLt i n))
+  ring-stores tabled above short queue states out =
+      ring-same (ringFor n r l) r (states-tabled (stateIn l) n (withOut (withQueue r (l .queue)) (outs (l .marks)))) tabled (λ i. at i (decLt i n))
       (record {
         free = parts .free ∙ ap (λ (x : Ring). x .free) kept;
         len = parts .len ∙ ap (λ (x : Ring). x .«free_len») kept;
@@ -59,7 +60,7 @@ module _ (l : Ledger) (n : ℕ) (v : Valid n l) (r : Ring) (wide : Wide r) where
       })
     where
       parts : Parts (ringFor n r l) (withOut (withQueue r (l .queue)) (outs (l .marks)))
-      parts = states-parts (stateIn l) (withOut (withQueue r (l .queue)) (outs (l .marks))) n
+      parts = states-parts (stateIn l) n (withOut (withQueue r (l .queue)) (outs (l .marks)))
 
       kept : withQueue r (l .queue) ≡ r
       kept = ap (withQueue r) (sym queue) ∙ queue-kept r (omega (arith, wide .places))
@@ -67,5 +68,4 @@ module _ (l : Ledger) (n : ℕ) (v : Valid n l) (r : Ring) (wide : Wide r) where
       at : (i : ℕ) → Dec (i < n) → stateOf (ringFor n r l) i ≡ stateOf r i
       at i (yes h) = shown-state l n v r wide i h ∙ sym (states i h)
       at i (no h) =
-          state-above (stateIn l) (withOut (withQueue r (l .queue)) (outs (l .marks))) n i (omega arith)
-          ∙ state-kept r (l .queue) (outs (l .marks)) i
+          state-above (stateIn l) n (withOut (withQueue r (l .queue)) (outs (l .marks))) i (omega arith) ∙ sym (above i (omega arith))

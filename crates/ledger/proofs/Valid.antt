@@ -4,21 +4,25 @@ use mathlib.Core.Path.{_≡_, refl, sym, ap, _∙_}
 use mathlib.Core.Bool.{Bool, true, false, false≢true}
 use Prim.Native.Nat.{ℕ, _≤_, _<_}
 use native.Mathlib.Omega.{arith}
+use lib.Dec.{ltb}
 use lib.ListN.{length}
 use Rattle.layout.specs.Opening.{admissible}
 use Rattle.ring.specs.declared.Ring.{Ring}
 use Rattle.ring.specs.declared.SlotState.{SlotState}
 use Rattle.ring.specs.Slots.{isFree, isFilling, isOut, one, holds, handWithin}
 use Rattle.ring.specs.Counts.{table, howMany, times, allBelow}
-use Rattle.ring.specs.Parts.{queueOf, stateOf, withQueue, withOut}
+use Rattle.ring.specs.Masks.{firstOf, inMasks}
+use Rattle.ring.specs.Parts.{queueOf, stateOf, withQueue, withMasks, withStates, withOut}
 use Rattle.ring.proofs.Counts.{count-at-most}
 use Rattle.ring.proofs.Numbers.{table-is}
 use Rattle.ring.proofs.Pigeonhole.{length-counted}
 use Rattle.ring.proofs.Queue.{queue-put, places-put}
 use Rattle.ring.proofs.Sound.{Sound, facts-sound}
-use Rattle.ring.proofs.States.{Parts, parts-queue, kept-wide, states-wide, states-parts, state-below}
+use Rattle.ring.proofs.States.{Parts, parts-queue, states-parts, state-below}
 use Rattle.ring.proofs.Truth.{both}
-use Rattle.ring.proofs.Wide.{Wide, StatesWide}
+use Rattle.ring.proofs.Masks.{masks-fit}
+use Rattle.ring.proofs.Restored.{first-single}
+use Rattle.ring.proofs.Wide.{Wide}
 use Rattle.stream.specs.declared.Stream.{Stream}
 use Rattle.stream.specs.Parts.{withState}
 use Rattle.stream.specs.Sound.{sound}
@@ -88,13 +92,9 @@ module _ (l : Ledger) (n : ℕ) (v : Valid n l) where
     base : Ring
     base = withOut (withQueue r (l .queue)) (outs (l .marks))
 
-    base-wide : StatesWide base
-    unfolding base
-    base-wide = kept-wide r (l .queue) (outs (l .marks)) (wide .states)
-
     shown-parts : Parts (ringFor n r l) base
     unfolding ringFor base
-    shown-parts = states-parts (stateIn l) base n
+    shown-parts = states-parts (stateIn l) n base
 
     pub shown-queue : queueOf (ringFor n r l) ≡ l .queue
     unfolding base
@@ -102,13 +102,13 @@ module _ (l : Ledger) (n : ℕ) (v : Valid n l) where
 
     pub shown-state : (i : ℕ) → i < n → stateOf (ringFor n r l) i ≡ stateIn l i
     unfolding ringFor base
-    shown-state i h = state-below (stateIn l) base base-wide n (v .few) i h
+    shown-state i h = state-below (stateIn l) n base (v .few) i h
 
     pub shown-wide : Wide (ringFor n r l)
-    unfolding ringFor base
+    unfolding ringFor base withStates withMasks
     shown-wide =
         record {
-          states = states-wide (stateIn l) base n base-wide;
+          states = masks-fit (firstOf n (stateIn l));
           places = ap length (shown-parts .free) ∙ places-put r (l .queue) (outs (l .marks)) (wide .places) (omega (arith, queue-fits, v .few));
         }
 
@@ -130,10 +130,15 @@ module _ (l : Ledger) (n : ℕ) (v : Valid n l) where
     unfolding stateIn
     shown-held i = filling-held (holds (l .hand) i) (markOf l i)
 
+    shown-single : (i : ℕ) → i < 256 → inMasks (ringFor n r l .states) i ≤ one (ltb i n)
+    unfolding ringFor withStates withMasks
+    shown-single i h = first-single (stateIn l) n i h
+
     pub shown-sound : Sound n (ringFor n r l) (l .hand)
     shown-sound =
         record {
           few = v .few;
+          single = shown-single;
           short = shown-short;
           below = rw shown-queue (v .below);
           queued = λ i h. rw (shown-queue, shown-state i h) (v .queued i h);

@@ -11,12 +11,12 @@ use Rattle.ring.specs.declared.Ring.{Ring}
 use Rattle.ring.specs.declared.SlotState.{SlotState}
 use Rattle.ring.specs.Slots.{isFilling, isOut, one, holds}
 use Rattle.ring.specs.Counts.{table, howMany}
-use Rattle.ring.specs.Parts.{queueOf, stateOf, withQueue, withOut, withStates, withState as Ring·withState}
+use Rattle.ring.specs.Parts.{queueOf, stateOf, Tabled, withQueue, withOut, withStates, withState as Ring·withState}
 use Rattle.ring.proofs.Numbers.{table-long, table-at}
-use Rattle.ring.proofs.Sound.{Sound}
-use Rattle.ring.proofs.States.{Parts, state-put, state-other, put-wide, put-parts, state-queued, state-counted, state-kept, kept-wide, states-wide, states-parts, state-above, state-below, ring-same}
+use Rattle.ring.proofs.Sound.{Sound, tabled, free-past}
+use Rattle.ring.proofs.States.{Parts, state-put, state-other, put-tabled, put-parts, state-queued, state-counted, counted-tabled, state-kept, kept-tabled, states-tabled, states-parts, state-above, state-below, ring-same}
 use Rattle.ring.proofs.Queue.{queue-kept}
-use Rattle.ring.proofs.Wide.{Wide, StatesWide}
+use Rattle.ring.proofs.Wide.{Wide}
 use Rattle.stream.specs.declared.Stream.{Stream}
 use Rattle.stream.specs.Parts.{withState}
 use Rattle.stream.specs.Sound.{sound}
@@ -79,11 +79,18 @@ module _ (s : Stream) (ok : sound s ≡ true) (wide : Wide (s .ring)) where
   unfolding view
   view-outs = outs-counted (stateOf (s .ring)) (s .setup .slots) ∙ sym (facts .out)
 
-  -- the ring that shows a ledger is any ring with its queue and out count, its states below n, and the others as they were
-  pub ring-shows : (l : Ledger) (r : Ring) → StatesWide r → ((j : ℕ) → j < s .setup .slots → stateOf r j ≡ stateIn l j) → ((j : ℕ) → s .setup .slots ≤ j → stateOf r j ≡ stateOf (s .ring) j) → Parts r (withOut (withQueue (s .ring) (l .queue)) (outs (l .marks))) → ringFor (s .setup .slots) (s .ring) l ≡ r
+  -- its masks are those of its states, and no slot at n or above is in one
+  pub own-tabled : Tabled (s .ring)
+  own-tabled = tabled facts wide
+
+  above-free : (j : ℕ) → s .setup .slots ≤ j → stateOf (s .ring) j ≡ SlotState.Free
+  above-free = free-past facts
+
+  -- the ring that shows a ledger is any ring with its queue and out count, its states below n, and no other slot in a mask
+  pub ring-shows : (l : Ledger) (r : Ring) → Tabled r → ((j : ℕ) → j < s .setup .slots → stateOf r j ≡ stateIn l j) → ((j : ℕ) → s .setup .slots ≤ j → stateOf r j ≡ SlotState.Free) → Parts r (withOut (withQueue (s .ring) (l .queue)) (outs (l .marks))) → ringFor (s .setup .slots) (s .ring) l ≡ r
   unfolding ringFor
-  ring-shows l r w below above parts =
-      ring-same _ r (states-wide (stateIn l) base n base-wide) w (λ j. at j (decLt j n))
+  ring-shows l r t below above parts =
+      ring-same _ r (states-tabled (stateIn l) n base) t (λ j. at j (decLt j n))
       (record { free = same .free ∙ sym (parts .free); len = same .len ∙ sym (parts .len); out = same .out ∙ sym (parts .out) })
     where
       n : ℕ
@@ -92,23 +99,18 @@ module _ (s : Stream) (ok : sound s ≡ true) (wide : Wide (s .ring)) where
       base : Ring
       base = withOut (withQueue (s .ring) (l .queue)) (outs (l .marks))
 
-      base-wide : StatesWide base
-      base-wide = kept-wide (s .ring) (l .queue) (outs (l .marks)) (wide .states)
-
       same : Parts (withStates n (stateIn l) base) base
-      same = states-parts (stateIn l) base n
+      same = states-parts (stateIn l) n base
 
       at : (j : ℕ) → Dec (j < n) → stateOf (withStates n (stateIn l) base) j ≡ stateOf r j
-      at j (yes p) = state-below (stateIn l) base base-wide n (facts .few) j p ∙ sym (below j p)
-      at j (no p) =
-          let q : n ≤ j = omega arith in
-          state-above (stateIn l) base n j q ∙ state-kept (s .ring) (l .queue) (outs (l .marks)) j ∙ sym (above j q)
+      at j (yes p) = state-below (stateIn l) n base (facts .few) j p ∙ sym (below j p)
+      at j (no p) = let q : n ≤ j = omega arith in state-above (stateIn l) n base j q ∙ sym (above j q)
 
   -- a ledger in which only slot i is in another state
   pub one-changed : (l : Ledger) (i : ℕ) → i < s .setup .slots → ((j : ℕ) → j < s .setup .slots → (j ≡ i → ⊥) → stateIn l j ≡ stateOf (s .ring) j) → ringFor (s .setup .slots) (s .ring) l ≡ withOut (Ring·withState (withQueue (s .ring) (l .queue)) i (stateIn l i)) (outs (l .marks))
   unfolding withOut withQueue
   one-changed l i h others =
-      ring-shows l (withOut put count) (put-wide base i (stateIn l i) (wide .states)) (λ j p. below j p (ℕ-discrete j i)) above
+      ring-shows l (withOut put count) (counted-tabled put count (put-tabled base i (stateIn l i))) (λ j p. below j p (ℕ-discrete j i)) above
       (record { free = parts .free; len = parts .len; out = refl })
     where
       base : Ring
@@ -125,18 +127,21 @@ module _ (s : Stream) (ok : sound s ≡ true) (wide : Wide (s .ring)) where
 
       below : (j : ℕ) → j < s .setup .slots → Dec (j ≡ i) → stateOf (withOut put count) j ≡ stateIn l j
       below j p (yes e) =
-          state-counted put count j ∙ rw e (state-put base i (stateIn l i) (wide .states) (omega (arith, facts .few)))
+          state-counted put count j ∙ rw e (state-put base i (stateIn l i) (omega (arith, facts .few)))
       below j p (no e) =
           state-counted put count j ∙ state-other base i (stateIn l i) j e ∙ state-queued (s .ring) (l .queue) j ∙ sym (others j p e)
 
-      above : (j : ℕ) → s .setup .slots ≤ j → stateOf (withOut put count) j ≡ stateOf (s .ring) j
+      above : (j : ℕ) → s .setup .slots ≤ j → stateOf (withOut put count) j ≡ SlotState.Free
       above j p =
-          state-counted put count j ∙ state-other base i (stateIn l i) j (λ e. omega arith) ∙ state-queued (s .ring) (l .queue) j
+          state-counted put count j
+          ∙ state-other base i (stateIn l i) j (λ e. omega arith)
+          ∙ state-queued (s .ring) (l .queue) j
+          ∙ above-free j p
 
   -- a ledger in which every slot is in the same state
   pub none-changed : (l : Ledger) → ((j : ℕ) → j < s .setup .slots → stateIn l j ≡ stateOf (s .ring) j) → ringFor (s .setup .slots) (s .ring) l ≡ withOut (withQueue (s .ring) (l .queue)) (outs (l .marks))
   none-changed l same =
-      ring-shows l _ (kept-wide (s .ring) (l .queue) (outs (l .marks)) (wide .states)) (λ j h. kept j ∙ sym (same j h)) (λ j h. kept j)
+      ring-shows l _ (kept-tabled (s .ring) (l .queue) (outs (l .marks)) own-tabled) (λ j h. kept j ∙ sym (same j h)) (λ j h. kept j ∙ above-free j h)
       (record { free = refl; len = refl; out = refl })
     where
       kept : (j : ℕ) → stateOf (withOut (withQueue (s .ring) (l .queue)) (outs (l .marks))) j ≡ stateOf (s .ring) j

@@ -33,7 +33,7 @@ view s =
       totals = s .stats;
     }
 
--- The ring that shows a ledger. Queue places behind the queue's end and states at and past n are as they were.
+-- The ring that shows a ledger. Queue places behind the queue's end are as they were, and no slot at n or above is in a mask.
 unfoldable pub ringFor : ℕ → Ring → Ledger → Ring
 ringFor n r l = withStates n (stateIn l) (withOut (withQueue r (l .queue)) (outs (l .marks)))
 

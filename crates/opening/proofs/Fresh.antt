@@ -12,11 +12,13 @@ use Rattle.layout.specs.Layout.{sizes}
 use Rattle.layout.specs.Opening.{limits, admissible}
 use Rattle.layout.proofs.Admission.{admits}
 use Rattle.ring.specs.declared.Hand.{Hand}
-use Rattle.ring.specs.Slots.{isFree, isFilling, isOut, one, holds, handWithin}
+use Rattle.ring.specs.declared.SlotState.{SlotState}
+use Rattle.ring.specs.Slots.{isFree, isFilling, isInFlight, isDiscarding, isOut, one, holds, handWithin}
 use Rattle.ring.specs.Parts.{queueOf, stateOf, freeRing}
 use Rattle.ring.specs.Counts.{slotNumbers, howMany}
 use Rattle.ring.proofs.Sound.{Sound, facts-sound}
 use Rattle.ring.proofs.Numbers.{length-numbers, numbers-once, numbers-below}
+use Rattle.ring.proofs.Masks.{in-masks, masks-fit}
 use Rattle.ring.proofs.States.{all-free}
 use Rattle.ring.proofs.Wide.{Wide}
 use Rattle.stream.specs.Sound.{sound}
@@ -35,10 +37,11 @@ none-count test p zero = refl
 none-count test p (suc n) = rw (p n, none-count test p n)
 
 fresh-facts : (n : ℕ) → n ≤ 256 → Sound n (freeRing n) Hand.Idle
-unfolding isFree isFilling isOut one holds handWithin freeRing
+unfolding isFree isFilling isInFlight isDiscarding isOut one holds handWithin freeRing
 fresh-facts n h =
     record {
       few = h;
+      single = λ i l. rw (in-masks (λ j. SlotState.Free) i l) (omega arith);
       short = h;
       below = rw (queue-all n) (numbers-below n n (omega arith));
       queued = λ i l. rw (queue-all n, all-free n i) (numbers-once i n l);
@@ -56,7 +59,7 @@ pub free-wide : (n : ℕ) → n ≤ 256 → Wide (freeRing n)
 unfolding freeRing
 free-wide n h =
     record {
-      states = refl;
+      states = masks-fit (λ i. SlotState.Free);
       places = rw (length-append, length-numbers n, length-replicate) (omega arith);
     }
 

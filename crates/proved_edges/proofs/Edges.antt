@@ -13,7 +13,10 @@ use Rattle.layout.specs.Layout.{raised, slotStride, dataBase, dataStride, total
 use Rattle.layout.specs.Numbers as Numbers
 use Rattle.layout.specs.Opening.{maskedOf, limit, layoutFor, totalOf, limits, badBase, baseAddress, admissible}
 use Rattle.layout.specs.Places.{placesOf}
+use Rattle.mask.specs.Bits as Bits
+use Rattle.mask.specs.Masks as Masks
 use Rattle.ring.specs.Slots as Slots
+use Rattle.ring.specs.Masks as States
 use Rattle.ring.specs.Counts as Counts
 use Rattle.ring.specs.Parts as Parts
 use Rattle.ring.specs.Sound as Ring
@@ -42,8 +45,9 @@ unfolding
     packetIntervalUs intervalFrom derived derivedFrom
     Bytes.le Bytes.ofLe Bytes.store Bytes.laid Signed.signed Header.headerBytes Header.headerAt Descriptor.descBytes Descriptor.descAt
     openedHeader withHeaders openedBlock openedStream withState sound
-    Parts.queueOf Parts.stateOf Parts.withQueue Parts.withState Parts.withStates Parts.withOut Parts.freeRing Slots.isFree Slots.isFilling Slots.isOut Slots.one Slots.holds Slots.handWithin Counts.slotNumbers Counts.table Counts.everySlot Counts.howMany Counts.times Counts.allBelow
-    Ring.queuedRight Ring.queueSound Ring.outSound Ring.heldRight Ring.handSound Ring.soundRing
+    Bits.bit Bits.word Masks.wordAt Masks.member Masks.tableWord Masks.maskOf States.stateAt States.masksOf States.inMasks States.changedAt States.firstOf Slots.isInFlight Slots.isDiscarding
+    Parts.queueOf Parts.stateOf Parts.withQueue Parts.withMasks Parts.withState Parts.withStates Parts.withOut Parts.freeRing Slots.isFree Slots.isFilling Slots.isOut Slots.one Slots.holds Slots.handWithin Counts.slotNumbers Counts.table Counts.everySlot Counts.howMany Counts.times Counts.allBelow
+    Ring.maskedRight Ring.masksSound Ring.queuedRight Ring.queueSound Ring.outSound Ring.heldRight Ring.handSound Ring.soundRing
     Ledger.withHand Ledger.withQueue Ledger.withMarks Ledger.withFlags Ledger.withTotals Ledger.markOf Ledger.marked Ledger.outs Ledger.slotState Ledger.stateIn Ledger.returned Ledger.plus
     Slot.sum Slot.shares Slot.descriptors Slot.headed Slot.committed Slot.silenced
     Notice.bufferBytes Notice.cookieOf Notice.slotAt Notice.slotOfUrb Notice.packetsAt Notice.requested Notice.short Notice.completionOf

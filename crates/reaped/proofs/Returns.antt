@@ -8,7 +8,7 @@ use Rattle.ring.specs.declared.Hand.{Hand}
 use Rattle.ring.specs.declared.Ring.{Ring}
 use Rattle.ring.specs.declared.SlotState.{SlotState}
 use Rattle.ring.specs.Moves.{completed}
-use Rattle.ring.specs.Parts.{stateOf}
+use Rattle.ring.specs.Parts.{stateOf, Tabled}
 use Rattle.ring.specs.Slots.{isOut}
 use Rattle.ring.proofs.Pigeonhole.{room, out-some}
 use Rattle.ring.proofs.States.{out-not-free}
@@ -20,7 +20,7 @@ use Rattle.stream.specs.Sound.{sound}
 use Rattle.ledger.specs.Ledger.{withQueue, withMarks, withTotals, marked, returned}
 use Rattle.ledger.specs.Record.{markFor, view, stored}
 use Rattle.ledger.proofs.Rings.{away, ring-completed}
-use Rattle.ledger.proofs.View.{facts, view-mark}
+use Rattle.ledger.proofs.View.{facts, own-tabled, view-mark}
 
 out-away : (x : SlotState) → isOut x ≡ true → away (markFor x) ≡ 1
 unfolding isOut away markFor
@@ -31,10 +31,10 @@ out-away SlotState.Discarding e = refl
 
 module _ (s : Stream) (ok : sound s ≡ true) (wide : Wide (s .ring)) (i : ℕ) (below : i < s .setup .slots) (out : isOut (stateOf (s .ring) i) ≡ true) where
   -- what the ring's complete asks
-  pub room-back : (i < 256) × (s .ring .«free_len» < 256) × (0 < s .ring .«in_flight»)
+  pub room-back : (i < 256) × (s .ring .«free_len» < 256) × (0 < s .ring .«in_flight») × Tabled (s .ring) × (isOut (stateOf (s .ring) i) ≡ true)
   room-back =
       let short = room (facts s ok wide) wide i below (out-not-free (stateOf (s .ring) i) out) in
-      (omega (arith, facts s ok wide .few), omega (arith, facts s ok wide .few), out-some (facts s ok wide) i below out)
+      (omega (arith, facts s ok wide .few), omega (arith, facts s ok wide .few), out-some (facts s ok wide) i below out, own-tabled s ok wide, out)
 
   pub put-back : s .hand ≡ Hand.Idle → (stats : IsoStats) → withState s (completed (s .ring) i) (s .hand) (s .flags) stats ≡ stored s (withTotals stats (returned i (view s)))
   unfolding stored withTotals returned withQueue marked withMarks view

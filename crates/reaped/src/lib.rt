@@ -12,7 +12,6 @@ use gate::refused;
 use notice::complete;
 use notice::slot_of_urb;
 use ring::Found;
-use ring::SlotState;
 use status::answer_for;
 use stream::Answer;
 use stream::IsoStats;
@@ -64,7 +63,7 @@ fn reaped_slot(s: Stream, block: &[u8], i: usize, was_discarded: bool) -> Reply
     }
 }
 
-// Internal: a notice of slot i, by the slot's state. Filling can't be: the hand is Idle.
+// Internal: a notice of slot i, by the slot's state. One that is not out is Free: the hand is Idle.
 fn noticed(s: Stream, block: &[u8], i: usize) -> Reply
     requires { ⌜ (sound s ≡ true) × (s .hand ≡ Hand.Idle) × (i < s .setup .slots)
         × (length (now block) ≡ totalOf (s .setup)) ⌝ }
@@ -73,11 +72,11 @@ fn noticed(s: Stream, block: &[u8], i: usize) -> Reply
         r (now (block .entry)) ⌝ }
 {
     let ring = s.ring;
-    match ring.state(i) {
-        SlotState::Free => refused(s, Error::StrayNotice),
-        SlotState::Filling => refused(s, Error::StrayNotice),
-        SlotState::InFlight => reaped_slot(s, block, i, false),
-        SlotState::Discarding => reaped_slot(s, block, i, true),
+    let was_discarded = ring.is_discarding(i);
+    if ring.is_out(i) {
+        reaped_slot(s, block, i, was_discarded)
+    } else {
+        refused(s, Error::StrayNotice)
     }
 }
 
@@ -127,7 +126,16 @@ fn reaped_idle(s: Stream, reply: Reaping, block: &[u8]) -> Reply
 pub fn reaped(s: Stream, reply: Reaping, block: &[u8]) -> Reply
     ensures { λ r. ⌜ Told (Call.reaped reply (now (block .entry))) s (r .answer) (r .stream) (now (block .entry)) ⌝ }
 {
-    match idle_gate(s, Lent::Block(block.len())) {
+    let setup = s.setup;
+    let ring = s.ring;
+    let hand = s.hand;
+    let n = setup.slots;
+    let home = ring.home(n);
+    let is_sound = setup.admissible()
+        & ring.hand_sound(n, hand)
+        & ring.out_sound(n, home)
+        & ring.count_sound(n, hand);
+    match idle_gate(is_sound, setup, hand, Lent::Block(block.len())) {
         Gate::Refused(e) => refused(s, e),
         Gate::Open => reaped_idle(s, reply, block),
     }

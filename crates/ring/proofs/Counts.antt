@@ -8,7 +8,7 @@ use mathlib.Core.Bool.{Bool, true, false}
 use mathlib.Core.List.{List, [], _∷_, _++_}
 use mathlib.Core.Logic.{_⊎_, inl, inr, ⊎-elim}
 use native.Mathlib.Decide.{ℕ-discrete}
-use lib.Dec.{ltb}
+use lib.Dec.{eqb, ltb}
 use lib.ListN.{length, getD, take}
 use borrow.Author.Tests.{lt-ltb, ltb-true, eq-eqb, ne-eqb}
 use Rattle.ring.specs.Slots.{one}
@@ -138,3 +138,26 @@ times-front i zero m l h = omega arith
 times-front i (suc k) zero l h = absurd (omega arith)
 times-front i (suc k) (suc m) [] h = omega arith
 times-front i (suc k) (suc m) (x ∷ l) h = omega (arith, times-front i k m l (omega arith))
+
+-- a slot at or past n is not in a queue of slots below n
+pub times-past : (n i : ℕ) (q : List ℕ) → n ≤ i → allBelow n q ≡ true → times i q ≡ 0
+unfolding times allBelow one
+times-past n i [] h p = refl
+times-past n i (x ∷ q) h p =
+    let l = ltb-true x n (first (ltb x n) (allBelow n q) p) in
+    omega (arith, ap one (ne-eqb i x (λ e. omega arith)), times-past n i q h (second (ltb x n) (allBelow n q) p))
+
+-- none of n is slot i, or one is
+pub count-none : (i n : ℕ) → n ≤ i → howMany n (eqb i) ≡ 0
+unfolding howMany one
+count-none i zero h = refl
+count-none i (suc n) h = omega (arith, ap one (ne-eqb i n (λ e. omega arith)), count-none i n (omega arith))
+
+pub count-once : (i n : ℕ) → i < n → howMany n (eqb i) ≡ 1
+unfolding howMany one
+count-once i zero h = absurd (omega arith)
+count-once i (suc n) h =
+    ⊎-elim
+    (λ (e : i ≡ n). omega (arith, ap one (eq-eqb i n e), count-none i n (omega arith)))
+    (λ (l : i < n). omega (arith, ap one (ne-eqb i n (λ e. omega arith)), count-once i n l))
+    (last-or-below i n h)

@@ -3,10 +3,14 @@ pub mod Counts
 pub mod Numbers
 pub mod Queue
 pub mod Hands
+pub mod Masks
 pub mod Wide
 pub mod States
 pub mod Restored
 pub mod Sound
-pub mod Walk
 pub mod Pigeonhole
-pub mod Made
+pub mod Placed
+pub mod Joined
+pub mod Moves
+pub mod Table
+pub mod Walk

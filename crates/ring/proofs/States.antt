@@ -1,37 +1,55 @@
 -- Laws of the slots' states, through the function that reads them: what is read after a slot's state is put, at that slot and at another, and
 -- after those of all slots below n; that two rings with the same states and the same other parts are the same; and what a test says of a
--- state. From the library's laws of `set` and `getD`. Assumes nothing.
-use Prim.Native.Nat.{ℕ, zero, suc, _≤_, _<_}
+-- state. From the laws of the masks. Assumes nothing.
+use Prim.Native.Nat.{ℕ, _≤_, _<_}
+use native.Mathlib.Decide.{decLt}
 use native.Mathlib.Omega.{arith}
 use mathlib.Core.Path.{_≡_, refl, sym, ap, ap₂, _∙_}
 use mathlib.Core.Bool.{true, false, false≢true}
 use mathlib.Core.List.{List}
-use mathlib.Core.Logic.{⊎-elim}
-use lib.ListN.{getD, take, replicate, length-set}
-use lib.Seq.{ext-getD, getD-set-same, getD-set-other}
+use lib.ListN.{take}
+use borrow.Author.Tests.{eq-eqb, ne-eqb, lt-ltb, le-ltb}
 use Rattle.ring.specs.declared.SlotState.{SlotState}
 use Rattle.ring.specs.declared.SlotState.the-variants.{Free, Filling, InFlight, Discarding}
-use Rattle.ring.specs.declared.Cell.{Cell}
 use Rattle.ring.specs.declared.Ring.{Ring}
 use Rattle.ring.specs.Slots.{isFree, isFilling, isOut}
-use Rattle.ring.specs.Parts.{queueOf, stateOf, withQueue, withState, withStates, withOut, freeRing}
-use Rattle.ring.proofs.Counts.{last-or-below}
-use Rattle.ring.proofs.Wide.{StatesWide}
+use Rattle.ring.specs.Masks.{masksOf, changedAt, firstOf}
+use Rattle.ring.specs.Parts.{queueOf, stateOf, Tabled, withQueue, withMasks, withState, withStates, withOut, freeRing}
+use Rattle.ring.proofs.Masks.{state-masks, masks-ext, state-past}
+
+-- other masks, and those of given states
+module _ (ring : Ring) (f : ℕ → SlotState) where
+  pub state-given : (i : ℕ) → i < 256 → stateOf (withMasks ring (masksOf f)) i ≡ f i
+  unfolding stateOf withMasks
+  state-given i h = state-masks f i h
+
+  pub given-tabled : Tabled (withMasks ring (masksOf f))
+  unfolding stateOf withMasks
+  given-tabled = masks-ext _ _ (λ i h. sym (state-masks f i h))
+
+-- there is no slot 256
+pub past : (ring : Ring) (i : ℕ) → 256 ≤ i → stateOf ring i ≡ Free
+unfolding stateOf
+past ring i h = state-past (ring .states) i h
 
 module _ (ring : Ring) (i : ℕ) (state : SlotState) where
   -- put, then read
-  pub state-put : StatesWide ring → i < 256 → stateOf (withState ring i state) i ≡ state
-  unfolding stateOf withState
-  state-put wide h = ap (λ (cell : Cell). cell .state) (getD-set-same (ring .states) i _ _ (rw wide h))
+  pub state-put : i < 256 → stateOf (withState ring i state) i ≡ state
+  unfolding withState changedAt
+  state-put h = state-given ring (changedAt i state (stateOf ring)) i h ∙ rw (eq-eqb i i refl)
 
   -- put, then read another slot
   pub state-other : (j : ℕ) → (j ≡ i → ⊥) → stateOf (withState ring i state) j ≡ stateOf ring j
-  unfolding stateOf withState
-  state-other j h = ap (λ (cell : Cell). cell .state) (getD-set-other (ring .states) i j _ _ h)
+  unfolding withState changedAt
+  state-other j ne = go (decLt j 256)
+    where
+      go : Dec (j < 256) → stateOf (withMasks ring (masksOf (changedAt i state (stateOf ring)))) j ≡ stateOf ring j
+      go (yes h) = state-given ring (changedAt i state (stateOf ring)) j h ∙ rw (ne-eqb i j (λ e. ne (sym e)))
+      go (no h) = past (withMasks ring (masksOf (changedAt i state (stateOf ring)))) j (omega arith) ∙ sym (past ring j (omega arith))
 
-  pub put-wide : StatesWide ring → StatesWide (withState ring i state)
+  pub put-tabled : Tabled (withState ring i state)
   unfolding withState
-  put-wide wide = length-set (ring .states) i _ ∙ wide
+  put-tabled = given-tabled ring (changedAt i state (stateOf ring))
 
 -- another queue, another out count, and both leave the states
 pub state-queued : (ring : Ring) (queue : List ℕ) (i : ℕ) → stateOf (withQueue ring queue) i ≡ stateOf ring i
@@ -47,9 +65,13 @@ module _ (ring : Ring) (queue : List ℕ) (count : ℕ) where
   unfolding stateOf withQueue withOut
   state-kept i = refl
 
-  pub kept-wide : StatesWide ring → StatesWide (withOut (withQueue ring queue) count)
-  unfolding withQueue withOut
-  kept-wide wide = wide
+  pub kept-tabled : Tabled ring → Tabled (withOut (withQueue ring queue) count)
+  unfolding stateOf withQueue withOut
+  kept-tabled tabled = tabled
+
+pub counted-tabled : (ring : Ring) (count : ℕ) → Tabled ring → Tabled (withOut ring count)
+unfolding stateOf withOut
+counted-tabled ring count tabled = tabled
 
 -- the parts of a ring but its states
 pub record Parts (a b : Ring) : Type 0 where
@@ -62,64 +84,61 @@ pub parts-queue : (a b : Ring) → Parts a b → queueOf a ≡ queueOf b
 unfolding queueOf
 parts-queue a b p = ap₂ (λ (n : ℕ) (free : List ℕ). take n free) (p .len) (p .free)
 
--- a state put leaves the other parts
+-- other states leave the other parts
 pub put-parts : (ring : Ring) (i : ℕ) (state : SlotState) → Parts (withState ring i state) ring
-unfolding withState
+unfolding withState withMasks
 put-parts ring i state = record { free = refl; len = refl; out = refl }
 
--- the states of all slots below n put
-module _ (f : ℕ → SlotState) (ring : Ring) where
-  pub states-wide : (n : ℕ) → StatesWide ring → StatesWide (withStates n f ring)
-  unfolding withStates
-  states-wide zero wide = wide
-  states-wide (suc n) wide = put-wide (withStates n f ring) n (f n) (states-wide n wide)
+-- the states below n, and no others
+module _ (f : ℕ → SlotState) (n : ℕ) where
+  pub first-below : (i : ℕ) → i < n → firstOf n f i ≡ f i
+  unfolding firstOf
+  first-below i h = rw (lt-ltb i n h)
 
-  pub states-parts : (n : ℕ) → Parts (withStates n f ring) ring
-  unfolding withStates
-  states-parts zero = record { free = refl; len = refl; out = refl }
-  states-parts (suc n) =
-      let put = put-parts (withStates n f ring) n (f n) in
-      let rest = states-parts n in
-      record { free = put .free ∙ rest .free; len = put .len ∙ rest .len; out = put .out ∙ rest .out }
+  pub first-above : (i : ℕ) → n ≤ i → firstOf n f i ≡ Free
+  unfolding firstOf
+  first-above i h = rw (le-ltb i n h)
 
-  pub state-above : (n i : ℕ) → n ≤ i → stateOf (withStates n f ring) i ≡ stateOf ring i
-  unfolding withStates
-  state-above zero i h = refl
-  state-above (suc n) i h = state-other (withStates n f ring) n (f n) i (λ e. omega arith) ∙ state-above n i (omega arith)
+  module _ (ring : Ring) where
+    pub states-tabled : Tabled (withStates n f ring)
+    unfolding withStates
+    states-tabled = given-tabled ring (firstOf n f)
 
-  pub state-below : StatesWide ring → (n : ℕ) → n ≤ 256 → (i : ℕ) → i < n → stateOf (withStates n f ring) i ≡ f i
-  unfolding withStates
-  state-below wide zero few i h = absurd (omega arith)
-  state-below wide (suc n) few i h =
-      ⊎-elim
-      (λ (e : i ≡ n). rw e (state-put (withStates n f ring) n (f n) (states-wide n wide) (omega arith)))
-      (λ (l : i < n). state-other (withStates n f ring) n (f n) i (λ e. omega arith) ∙ state-below wide n (omega arith) i l)
-      (last-or-below i n h)
+    pub states-parts : Parts (withStates n f ring) ring
+    unfolding withStates withMasks
+    states-parts = record { free = refl; len = refl; out = refl }
 
-cell-path : (a b : Cell) → a .state ≡ b .state → a ≡ b
-cell-path a b p = λ i. record { state = p i }
+    pub state-below : n ≤ 256 → (i : ℕ) → i < n → stateOf (withStates n f ring) i ≡ f i
+    unfolding withStates
+    state-below few i h = state-given ring (firstOf n f) i (omega arith) ∙ first-below i h
+
+    pub state-above : (i : ℕ) → n ≤ i → stateOf (withStates n f ring) i ≡ Free
+    unfolding withStates
+    state-above i h = go (decLt i 256)
+      where
+        go : Dec (i < 256) → stateOf (withMasks ring (masksOf (firstOf n f))) i ≡ Free
+        go (yes l) = state-given ring (firstOf n f) i l ∙ first-above i h
+        go (no l) = past (withMasks ring (masksOf (firstOf n f))) i (omega arith)
 
 -- two rings with the same states and the same other parts
-pub ring-same : (a b : Ring) → StatesWide a → StatesWide b → ((i : ℕ) → stateOf a i ≡ stateOf b i) → Parts a b → a ≡ b
-unfolding stateOf
-ring-same a b wa wb same parts = λ i. record { states = states i; free = parts .free i; «free_len» = parts .len i; «in_flight» = parts .out i }
-  where
-    states : a .states ≡ b .states
-    states = ext-getD (record { state = Free }) _ _ (wa ∙ sym wb) (λ i h. cell-path _ _ (same i))
+pub ring-same : (a b : Ring) → Tabled a → Tabled b → ((i : ℕ) → stateOf a i ≡ stateOf b i) → Parts a b → a ≡ b
+ring-same a b ta tb same parts =
+    λ i.
+    record {
+      states = (ta ∙ masks-ext (stateOf a) (stateOf b) (λ j h. same j) ∙ sym tb) i;
+      free = parts .free i;
+      «free_len» = parts .len i;
+      «in_flight» = parts .out i;
+    }
 
 -- a fresh ring: every slot is Free
-free-cell : Cell
-free-cell = record { state = Free }
-
-table-free : (m i : ℕ) → getD (replicate m free-cell) i free-cell .state ≡ Free
-unfolding free-cell
-table-free zero i = refl
-table-free (suc m) zero = refl
-table-free (suc m) (suc i) = table-free m i
-
 pub all-free : (n i : ℕ) → stateOf (freeRing n) i ≡ Free
-unfolding stateOf freeRing free-cell
-all-free n i = table-free 256 i
+unfolding stateOf freeRing
+all-free n i = go (decLt i 256)
+  where
+    go : Dec (i < 256) → stateOf (freeRing n) i ≡ Free
+    go (yes h) = state-masks (λ j. Free) i h
+    go (no h) = past (freeRing n) i (omega arith)
 
 -- what a test says of the state
 pub free-is : (state : SlotState) → isFree state ≡ true → state ≡ Free

@@ -1,19 +1,16 @@
--- The two arrays of a ring have their 256 places.
+-- The words of a ring's masks have 64 bits, and its queue 256 places.
 -- A value of the type has them by its relation to memory; a ring in a proof has them by this record. Assumes nothing.
-use Prim.Native.Nat.{ℕ}
-use mathlib.Core.Path.{_≡_, sym, _∙_}
-use mathlib.Core.List.{List, map}
-use lib.ListN.{length, length-map}
+use mathlib.Core.Path.{_≡_}
+use lib.ListN.{length}
+use Rattle.mask.proofs.Masks.{Fits}
 use Rattle.ring.specs.declared.Ring.{Ring}
-
--- the states of 256 slots are held
-abbrev pub StatesWide : Ring → Type 0
-StatesWide ring = length (ring .states) ≡ 256
+use Rattle.ring.specs.declared.SlotStates.{SlotStates}
+use Rattle.ring.proofs.Masks.{MasksFit}
 
 pub record Wide (ring : Ring) : Type 0 where
-  pub states : StatesWide ring
+  pub states : MasksFit (ring .states)
   pub places : length (ring .free) ≡ 256
 
--- The table of states has its places where its image in memory has: with `needs`, this finds `states` of a function's argument.
-pub table-long : {A B : Type 0} (f : A → B) (l : List A) (n : ℕ) → length (map f l) ≡ n → length l ≡ n
-table-long f l n e = sym (length-map l f) ∙ e
+-- With `needs` and the mask's `fits`, this finds `states` of a function's argument.
+pub masks-known : (m : SlotStates) → Fits (m .filling) → Fits (m .«in_flight») → Fits (m .discarding) → MasksFit m
+masks-known m f i d = record { filling = f; flying = i; discarding = d }

@@ -1,11 +1,12 @@
 -- The moves of a slot: from the queue into the hand, to the kernel, and back.
 use Prim.Native.Nat.{ℕ, _+_, _-_}
 use mathlib.Core.List.{List, [], _∷_, _++_}
-use Rattle.ring.specs.declared.SlotState.the-variants.{Free, Filling, InFlight, Discarding}
+use Rattle.ring.specs.declared.SlotState.the-variants.{Free, Filling, InFlight}
 use Rattle.ring.specs.declared.Ring.{Ring}
 use Rattle.ring.specs.declared.Found.the-variants.{Slot, Nothing}
 use Rattle.ring.specs.declared.Taken.{Taken}
-use Rattle.ring.specs.Parts.{queueOf, withQueue, withState, withOut}
+use Rattle.ring.specs.Masks.{masksOf, stopped}
+use Rattle.ring.specs.Parts.{queueOf, stateOf, withQueue, withMasks, withState, withOut}
 
 -- From an empty queue nothing is taken; else the front slot leaves it and is Filling.
 unfoldable pub takenFrom : Ring → List ℕ → Taken
@@ -24,9 +25,9 @@ returned ring i = withState (withQueue ring (queueOf ring ++ (i ∷ []))) i Free
 unfoldable pub markedInFlight : Ring → ℕ → Ring
 markedInFlight ring i = withState (withOut ring (ring .«in_flight» + 1)) i InFlight
 
--- Slot i, InFlight, discarded: still out, so the out count stays.
-unfoldable pub discarded : Ring → ℕ → Ring
-discarded ring i = withState ring i Discarding
+-- Each InFlight slot discarded: Discarding, and still out, so the out count stays.
+unfoldable pub discarded : Ring → Ring
+discarded ring = withMasks ring (masksOf (λ i. stopped (stateOf ring i)))
 
 -- Slot i, out, given back by the kernel: returned, and one less is out.
 unfoldable pub completed : Ring → ℕ → Ring

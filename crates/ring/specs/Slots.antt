@@ -4,7 +4,6 @@ use mathlib.Core.Bool.{Bool, true, false, _&&_}
 use lib.Dec.{ltb, leb, eqb}
 use Rattle.ring.specs.declared.SlotState.{SlotState}
 use Rattle.ring.specs.declared.SlotState.the-variants.{Free, Filling, InFlight, Discarding}
-use Rattle.ring.specs.declared.Place.{Place}
 use Rattle.ring.specs.declared.Hand.{Hand}
 use Rattle.ring.specs.declared.Hand.the-variants.{Idle, Held, Sending, Silent}
 
@@ -22,6 +21,18 @@ isFilling Filling = true
 isFilling InFlight = false
 isFilling Discarding = false
 
+unfoldable pub isInFlight : SlotState → Bool
+isInFlight Free = false
+isInFlight Filling = false
+isInFlight InFlight = true
+isInFlight Discarding = false
+
+unfoldable pub isDiscarding : SlotState → Bool
+isDiscarding Free = false
+isDiscarding Filling = false
+isDiscarding InFlight = false
+isDiscarding Discarding = true
+
 -- InFlight and Discarding are out.
 unfoldable pub isOut : SlotState → Bool
 isOut Free = false
@@ -33,10 +44,6 @@ isOut Discarding = true
 unfoldable pub one : Bool → ℕ
 one true = 1
 one false = 0
-
--- In the queue if Free, in hand if Filling, and 1 in the out count if out.
-unfoldable pub placeOf : SlotState → Place
-placeOf state = record { queued = isFree state; held = isFilling state; out = one (isOut state) }
 
 -- Slot i is the hand's.
 unfoldable pub holds : Hand → ℕ → Bool

@@ -1,12 +1,20 @@
 -- Refusal 8, the part about the ring and the hand. The parts stand in the paper's order.
 use Prim.Native.Nat.{ℕ}
 use mathlib.Core.Bool.{Bool, _&&_, Bool·beq}
-use lib.Dec.{leb, eqb}
+use lib.Dec.{leb, ltb, eqb}
 use Rattle.ring.specs.declared.Hand.{Hand}
 use Rattle.ring.specs.declared.Ring.{Ring}
 use Rattle.ring.specs.Slots.{isFree, isFilling, isOut, one, holds, handWithin}
+use Rattle.ring.specs.Masks.{inMasks}
 use Rattle.ring.specs.Parts.{queueOf, stateOf}
 use Rattle.ring.specs.Counts.{everySlot, howMany, times, allBelow}
+
+-- A slot below n is in one mask at most, and a number at n or above in none (request 2026-11).
+unfoldable pub maskedRight : ℕ → Ring → ℕ → Bool
+maskedRight n ring i = leb (inMasks (ring .states) i) (one (ltb i n))
+
+unfoldable pub masksSound : ℕ → Ring → Bool
+masksSound n ring = everySlot 256 (maskedRight n ring)
 
 -- Slot i stands in the queue once if it is Free, and else not at all.
 unfoldable pub queuedRight : Ring → ℕ → Bool
@@ -30,4 +38,4 @@ handSound n ring hand = handWithin n hand && everySlot n (heldRight ring hand)
 
 -- A ring of n slots, at most 256, and a hand that break none of this.
 unfoldable pub soundRing : ℕ → Ring → Hand → Bool
-soundRing n ring hand = leb n 256 && queueSound n ring && outSound n ring && handSound n ring hand
+soundRing n ring hand = leb n 256 && masksSound n ring && queueSound n ring && outSound n ring && handSound n ring hand

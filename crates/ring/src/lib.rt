@@ -1,16 +1,21 @@
 // The ring's slots and its free queue, the hand, and the test that they are sound.
-// The queue is held front first, in the first free_len places of `free`. What stands behind it, and the states of slots
-// that the ring doesn't have, are never looked at and never change.
+// The queue is held front first, in the first free_len places of `free`. What stands behind it is never looked at and
+// never changes.
+mod pieces;
+
+use mask::Mask;
 ghost use mathlib.Core.Path.{_≡_};
-ghost use mathlib.Core.Bool.{false};
-ghost use mathlib.Core.List.{_++_};
-ghost use Prim.Native.Nat.{_-_, _<_, _≤_};
+ghost use mathlib.Core.Bool.{true};
+ghost use mathlib.Core.List.{List, [], _∷_, _++_};
+ghost use Prim.Native.Nat.{ℕ, _-_, _<_, _≤_};
 ghost use lib.ListN.{replicate, take, drop, getD};
+ghost use Rattle.mask.specs.Masks.{maskOf};
 ghost use Rattle.ring.specs.declared.SlotState.{SlotState};
-ghost use Rattle.ring.specs.Slots.{placeOf, holds, handWithin};
+ghost use Rattle.ring.specs.Slots.{isDiscarding, isOut, holds, handWithin};
 ghost use Rattle.ring.specs.Counts.{slotNumbers};
-ghost use Rattle.ring.specs.Sound.{soundRing};
-ghost use Rattle.ring.specs.Parts.{stateOf, withState, freeRing};
+ghost use Rattle.ring.specs.Masks.{masksOf};
+ghost use Rattle.ring.specs.Parts.{queueOf, stateOf, Tabled, withQueue, freeRing};
+ghost use Rattle.ring.specs.Tests.{inHand};
 ghost use Rattle.ring.specs.Moves.{taken, returned, markedInFlight, discarded, completed};
 
 // What a slot is doing. Free: in the queue. Filling: in hand. InFlight: the kernel has it. Discarding: the kernel
@@ -22,13 +27,15 @@ pub enum SlotState {
     Discarding,
 }
 
-// One slot's place in the table of states: a struct, since the prover covers no array of enums as a field.
-pub struct Cell {
-    pub state: SlotState,
+// The states of all slots: a slot is in the mask of its state, and a Free one in none.
+pub struct SlotStates {
+    pub filling: Mask,
+    pub in_flight: Mask,
+    pub discarding: Mask,
 }
 
 pub struct Ring {
-    pub states: [Cell; 256],
+    pub states: SlotStates,
     pub free: [u8; 256],
     pub free_len: usize,
     pub in_flight: usize,
@@ -60,44 +67,34 @@ struct Moved {
     rest: [u8; 256],
 }
 
-// Where a slot is, by its state: in the queue, in hand, or out (1, what it adds to the out count, else 0).
-pub struct Place {
-    pub queued: bool,
-    pub held: bool,
-    pub out: usize,
-}
-
-impl Place {
-    fn new(queued: bool, held: bool, out: usize) -> Place
-        ensures { λ r. ⌜ r ≡ record { queued = queued; held = held; out = out } ⌝ }
-    {
-        Place { queued, held, out }
-    }
-}
-
-impl SlotState {
-    pub fn place(self) -> Place
-        ensures { λ r. ⌜ r ≡ placeOf self ⌝ }
-    {
-        match self {
-            SlotState::Free => Place::new(true, false, 0),
-            SlotState::Filling => Place::new(false, true, 0),
-            SlotState::InFlight => Place::new(false, false, 1),
-            SlotState::Discarding => Place::new(false, false, 1),
-        }
-    }
+// The slots at home, in the queue or Filling, if no slot is there twice.
+pub struct Home {
+    pub slots: Mask,
+    pub once: bool,
 }
 
 impl Hand {
-    // Whether slot i is the hand's.
-    pub fn holds(self, i: usize) -> bool
-        ensures { λ r. ⌜ r ≡ holds self i ⌝ }
+    // The hand's slot as a mask; none where it is Idle.
+    pub fn mask(self) -> Mask
+        ensures { λ r. ⌜ r ≡ maskOf (holds self) ⌝ }
     {
         match self {
-            Hand::Idle => false,
-            Hand::Held(slot) => slot == i,
-            Hand::Sending(slot) => slot == i,
-            Hand::Silent(slot, _) => slot == i,
+            Hand::Idle => Mask::none(),
+            Hand::Held(slot) => Mask::only(slot),
+            Hand::Sending(slot) => Mask::only(slot),
+            Hand::Silent(slot, _) => Mask::only(slot),
+        }
+    }
+
+    // How many slots it has.
+    pub fn count(self) -> usize
+        ensures { λ r. ⌜ r ≡ inHand self ⌝ }
+    {
+        match self {
+            Hand::Idle => 0,
+            Hand::Held(_) => 1,
+            Hand::Sending(_) => 1,
+            Hand::Silent(_, _) => 1,
         }
     }
 
@@ -114,11 +111,27 @@ impl Hand {
     }
 }
 
-// Internal: no slot seen yet.
-fn none_seen() -> [bool; 256]
-    ensures { λ r. ⌜ r ≡ replicate 256 false ⌝ }
-{
-    [false; 256]
+impl SlotStates {
+    pub fn new(filling: Mask, in_flight: Mask, discarding: Mask) -> SlotStates
+        ensures { λ r. ⌜ r ≡ record { filling = filling; «in_flight» = «in_flight»; discarding = discarding } ⌝ }
+    {
+        SlotStates {
+            filling,
+            in_flight,
+            discarding,
+        }
+    }
+
+    // Every slot Free.
+    pub fn all_free() -> SlotStates
+        ensures { λ r. ⌜ r ≡ masksOf (λ i. SlotState.Free) ⌝ }
+    {
+        SlotStates {
+            filling: Mask::none(),
+            in_flight: Mask::none(),
+            discarding: Mask::none(),
+        }
+    }
 }
 
 // Internal: the front leaves, and the first count places each get what stands in the next. The front is read from the
@@ -132,15 +145,6 @@ fn moved_down(mut free: [u8; 256], count: usize) -> Moved
         free[k] = free[k + 1];
     }
     Moved { front, rest: free }
-}
-
-// Internal: every slot Free.
-pub fn all_free() -> [Cell; 256]
-    ensures { λ r. ⌜ r ≡ replicate 256 (record { state = SlotState.Free }) ⌝ }
-{
-    [Cell {
-        state: SlotState::Free,
-    }; 256]
 }
 
 // Internal: an empty queue's places.
@@ -168,7 +172,7 @@ impl Ring {
         requires { ⌜ n ≤ 256 ⌝ }
         ensures { λ r. ⌜ r ≡ freeRing n ⌝ }
     {
-        let states = all_free();
+        let states = SlotStates::all_free();
         let free = slot_numbers(n);
         Ring {
             states,
@@ -178,72 +182,28 @@ impl Ring {
         }
     }
 
-    // Internal: the state of slot i.
-    pub fn state(self, i: usize) -> SlotState
-        requires { ⌜ i < 256 ⌝ }
-        ensures { λ r. ⌜ r ≡ stateOf self i ⌝ }
+    // Internal: whether slot i is Discarding.
+    pub fn is_discarding(self, i: usize) -> bool
+        requires { ⌜ Tabled self × (i < 256) ⌝ }
+        ensures { λ r. ⌜ r ≡ isDiscarding (stateOf self i) ⌝ }
     {
         let states = self.states;
-        let cell = states[i];
-        cell.state
+        states.discarding.has(i)
     }
 
-    // Whether the ring of n slots and the hand break nothing of refusal 8's list, whatever they hold.
-    // One walk of the queue marks its slots, and one of the states compares.
-    pub fn sound(self, n: usize, hand: Hand) -> bool
-        ensures { λ r. ⌜ r ≡ soundRing n self hand ⌝ }
+    // Internal: whether slot i is out: InFlight or Discarding.
+    pub fn is_out(self, i: usize) -> bool
+        requires { ⌜ Tabled self × (i < 256) ⌝ }
+        ensures { λ r. ⌜ r ≡ isOut (stateOf self i) ⌝ }
     {
-        let len = self.free_len;
-        if 256 < n {
-            return false;
-        }
-        if 256 < len {
-            return false;
-        }
-        if !hand.within(n) {
-            return false;
-        }
-        let free = self.free;
-        let mut seen = none_seen();
-        for k in 0..len {
-            let slot = free[k] as usize;
-            if n <= slot {
-                return false;
-            }
-            if seen[slot] {
-                return false;
-            }
-            seen[slot] = true;
-        }
         let states = self.states;
-        let mut out: usize = 0;
-        for i in 0..n {
-            let cell = states[i];
-            let state = cell.state;
-            let place = state.place();
-            if seen[i] != place.queued {
-                return false;
-            }
-            if hand.holds(i) != place.held {
-                return false;
-            }
-            out += place.out;
-        }
-        self.in_flight == out
-    }
-
-    // Internal: sets the state of slot i.
-    pub fn with_state(mut self, i: usize, state: SlotState) -> Ring
-        requires { ⌜ i < 256 ⌝ }
-        ensures { λ r. ⌜ r ≡ withState self i state ⌝ }
-    {
-        self.states[i] = Cell { state };
-        self
+        states.in_flight.union(states.discarding).has(i)
     }
 
     // Internal: takes the front slot, if there is one, and marks it Filling.
     pub fn take_free(mut self) -> Taken
-        requires { ⌜ self .«free_len» ≤ 256 ⌝ }
+        requires { ⌜ (self .«free_len» ≤ 256) × Tabled self
+            × ((slot : ℕ) (rest : List ℕ) → queueOf self ≡ slot ∷ rest → stateOf self slot ≡ SlotState.Free) ⌝ }
         ensures { λ r. ⌜ r ≡ taken self ⌝ }
     {
         let len = self.free_len;
@@ -260,46 +220,79 @@ impl Ring {
         let rest = moved.rest;
         self.free = rest;
         self.free_len = left;
+        let was = self.states;
+        let states = SlotStates::new(was.filling.with(slot), was.in_flight, was.discarding);
+        self.states = states;
         Taken {
-            ring: self.with_state(slot, SlotState::Filling),
+            ring: self,
             slot: Found::Slot(slot),
         }
     }
 
-    // Internal: puts slot i at the queue's end, as Free. The out count is the caller's matter.
-    pub fn release(mut self, i: usize) -> Ring
+    // Internal: slot i's number at the queue's end.
+    fn push_free(mut self, i: usize) -> Ring
         requires { ⌜ (i < 256) × (self .«free_len» < 256) ⌝ }
-        ensures { λ r. ⌜ r ≡ returned self i ⌝ }
+        ensures { λ r. ⌜ r ≡ withQueue self (queueOf self ++ (i ∷ [])) ⌝ }
     {
         let len = self.free_len;
         self.free[len] = i as u8;
         self.free_len = len + 1;
-        self.with_state(i, SlotState::Free)
+        self
     }
 
-    // Internal: the kernel accepted slot i, which counts as out from here on.
+    // Internal: puts slot i, which is in hand, at the queue's end, as Free.
+    pub fn release(mut self, i: usize) -> Ring
+        requires { ⌜ (i < 256) × (self .«free_len» < 256) × Tabled self × (stateOf self i ≡ SlotState.Filling) ⌝ }
+        ensures { λ r. ⌜ r ≡ returned self i ⌝ }
+    {
+        let was = self.states;
+        let states = SlotStates::new(was.filling.without(i), was.in_flight, was.discarding);
+        self.states = states;
+        self.push_free(i)
+    }
+
+    // Internal: the kernel accepted slot i, which is in hand and counts as out from here on.
     pub fn mark_in_flight(mut self, i: usize) -> Ring
-        requires { ⌜ (i < 256) × (self .«in_flight» < 256) ⌝ }
+        requires { ⌜ (i < 256) × (self .«in_flight» < 256) × Tabled self × (stateOf self i ≡ SlotState.Filling) ⌝ }
         ensures { λ r. ⌜ r ≡ markedInFlight self i ⌝ }
     {
         self.in_flight += 1;
-        self.with_state(i, SlotState::InFlight)
+        let was = self.states;
+        let states = SlotStates::new(
+            was.filling.without(i),
+            was.in_flight.with(i),
+            was.discarding,
+        );
+        self.states = states;
+        self
     }
 
-    // Internal: a discard of slot i was asked for. It stays out until the kernel gives it back.
-    pub fn mark_discarding(self, i: usize) -> Ring
-        requires { ⌜ i < 256 ⌝ }
-        ensures { λ r. ⌜ r ≡ discarded self i ⌝ }
+    // Internal: a discard of every InFlight slot was asked for. They stay out until the kernel gives them back.
+    pub fn mark_discarding(mut self) -> Ring
+        requires { ⌜ Tabled self ⌝ }
+        ensures { λ r. ⌜ r ≡ discarded self ⌝ }
     {
-        self.with_state(i, SlotState::Discarding)
+        let was = self.states;
+        let none = Mask::none();
+        let states = SlotStates::new(was.filling, none, was.discarding.union(was.in_flight));
+        self.states = states;
+        self
     }
 
-    // Internal: the kernel gave slot i back; one less is out, and the slot is released.
+    // Internal: the kernel gave slot i back; one less is out, and the slot is at the queue's end, as Free.
     pub fn complete(mut self, i: usize) -> Ring
-        requires { ⌜ (i < 256) × (self .«free_len» < 256) × (0 < self .«in_flight») ⌝ }
+        requires { ⌜ (i < 256) × (self .«free_len» < 256) × (0 < self .«in_flight») × Tabled self
+            × (isOut (stateOf self i) ≡ true) ⌝ }
         ensures { λ r. ⌜ r ≡ completed self i ⌝ }
     {
         self.in_flight -= 1;
-        self.release(i)
+        let was = self.states;
+        let states = SlotStates::new(
+            was.filling,
+            was.in_flight.without(i),
+            was.discarding.without(i),
+        );
+        self.states = states;
+        self.push_free(i)
     }
 }

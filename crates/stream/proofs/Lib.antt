@@ -1,3 +1,4 @@
 pub mod Soundness
 pub mod Numbers
 pub mod Arrays
+pub mod Joined

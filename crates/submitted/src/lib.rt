@@ -1,8 +1,9 @@
 // The call submitted: what the kernel answered to the slot in hand.
 use error::ErrnoContext;
 use error::Error;
-use front::silence_front;
+use front::silence_taken;
 use front::take_front;
+use front::take_silent;
 use gate::Gate;
 use gate::Lent;
 use gate::block_gate;
@@ -83,7 +84,12 @@ fn chain(s: Stream, block: &mut [u8], left: usize) -> Reply
     if left == 0 {
         take_front(s)
     } else {
-        silence_front(s, block, left - 1)
+        let setup = s.setup;
+        let done = take_silent(s, left - 1);
+        let after = done.stream;
+        let hand = after.hand;
+        silence_taken(setup, hand, block);
+        done
     }
 }
 
@@ -117,16 +123,22 @@ fn silent(s: Stream, reply: Submission, block: &mut [u8], i: usize, left: usize)
 pub fn submitted(s: Stream, reply: Submission, block: &mut [u8]) -> Reply
     ensures { λ r. ⌜ Told (Call.submitted reply (now (block .entry))) s (r .answer) (r .stream) (now (block .exit)) ⌝ }
 {
-    match block_gate(s, Lent::Block(block.len())) {
+    let setup = s.setup;
+    let ring = s.ring;
+    let hand = s.hand;
+    let n = setup.slots;
+    let home = ring.home(n);
+    let is_sound = setup.admissible()
+        & ring.hand_sound(n, hand)
+        & ring.out_sound(n, home)
+        & ring.count_sound(n, hand);
+    match block_gate(is_sound, setup, Lent::Block(block.len())) {
         Gate::Refused(e) => refused(s, e),
-        Gate::Open => {
-            let hand = s.hand;
-            match hand {
-                Hand::Idle => refused(s, Error::WrongHand),
-                Hand::Held(_) => refused(s, Error::WrongHand),
-                Hand::Sending(i) => sent(s, reply, block, i),
-                Hand::Silent(i, left) => silent(s, reply, block, i, left),
-            }
-        }
+        Gate::Open => match hand {
+            Hand::Idle => refused(s, Error::WrongHand),
+            Hand::Held(_) => refused(s, Error::WrongHand),
+            Hand::Sending(i) => sent(s, reply, block, i),
+            Hand::Silent(i, left) => silent(s, reply, block, i, left),
+        },
     }
 }

@@ -1,7 +1,8 @@
 // The call turn: the middle of the Rust's next_slot.
 use error::Error;
-use front::silence_front;
+use front::silence_taken;
 use front::take_front;
+use front::take_silent;
 use gate::Gate;
 use gate::Lent;
 use gate::idle_gate;
@@ -60,7 +61,13 @@ fn on_underrun(s: Stream, block: &mut [u8]) -> Reply
     let policy = setup.underrun;
     match policy {
         Underrun::Continue => take_front(counted),
-        Underrun::FillSilence => silence_front(counted, block, 1),
+        Underrun::FillSilence => {
+            let done = take_silent(counted, 1);
+            let after = done.stream;
+            let hand = after.hand;
+            silence_taken(setup, hand, block);
+            done
+        }
         Underrun::Error => refused(counted, Error::Underrun(counted.stats.underruns)),
     }
 }
@@ -81,7 +88,16 @@ fn turn_idle(s: Stream, block: &mut [u8]) -> Reply
 pub fn turn(s: Stream, block: &mut [u8]) -> Reply
     ensures { λ r. ⌜ Told (Call.turn (now (block .entry))) s (r .answer) (r .stream) (now (block .exit)) ⌝ }
 {
-    match idle_gate(s, Lent::Block(block.len())) {
+    let setup = s.setup;
+    let ring = s.ring;
+    let hand = s.hand;
+    let n = setup.slots;
+    let home = ring.home(n);
+    let is_sound = setup.admissible()
+        & ring.hand_sound(n, hand)
+        & ring.out_sound(n, home)
+        & ring.count_sound(n, hand);
+    match idle_gate(is_sound, setup, hand, Lent::Block(block.len())) {
         Gate::Refused(e) => refused(s, e),
         Gate::Open => turn_idle(s, block),
     }

@@ -19,7 +19,7 @@ use Rattle.commit.proofs.commit_full.Tie as tie
 
 -- the gate is open
 opened : (c : tie.After-i) → let a = c .before .before .before .before .args in heldGate (a .s) (Lent.Block (length (a .block .now))) ≡ InHand.Slot (c .i .given .0 .0)
-opened c = sym (c .before .before .held-gate .ensures) ∙ c .i .given .1
+opened c = sym (c .before .before .slot-in-hand .ensures) ∙ c .i .given .1
 
 slot-capacity-requires : tie.Need-slot-capacity-requires
 slot-capacity-requires c κs =
@@ -49,7 +49,7 @@ returns-2 c =
     let e = c .before .before in
     let d = e .before .before .before .before in
     held-refused (d .args .s) (Lent.Block _) (commitFull (d .args .block .now)) (λ i st. Commit.commitHeld (capacityOf st) i st) refl refl
-    (arrays (d .args .s) (d .good .0)) _ (sym (e .before .before .held-gate .ensures) ∙ e .e .given .1) _ (c .refused .ensures)
+    (arrays (d .args .s) (d .good .0)) _ (sym (e .before .before .slot-in-hand .ensures) ∙ e .e .given .1) _ (c .refused .ensures)
 
 pub commit-full-spec : {M : Type 1} → statement M
 commit-full-spec =

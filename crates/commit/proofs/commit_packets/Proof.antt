@@ -16,7 +16,7 @@ use Rattle.commit.proofs.commit_packets.Tie as tie
 
 -- the gate is open
 opened : (c : tie.After-i) → let a = c .before .before .before .before .before .args in heldGate (a .s) (Lent.Block (length (a .block .now))) ≡ InHand.Slot (c .i .given .0 .0)
-opened c = sym (c .before .before .held-gate .ensures) ∙ c .i .given .1
+opened c = sym (c .before .before .slot-in-hand .ensures) ∙ c .i .given .1
 
 packets-held-requires : tie.Need-packets-held-requires
 packets-held-requires c κs =
@@ -39,7 +39,7 @@ returns-2 c =
     let e = c .before .before in
     let d = e .before .before .before .before .before in
     held-refused (d .args .s) (Lent.Block _) (commitPackets (d .args .lengths .now) (d .args .block .now)) (Commit.packetsHeld (d .args .lengths .now)) refl refl
-    (arrays (d .args .s) (d .good .0)) _ (sym (e .before .before .held-gate .ensures) ∙ e .e .given .1) _ (c .refused .ensures)
+    (arrays (d .args .s) (d .good .0)) _ (sym (e .before .before .slot-in-hand .ensures) ∙ e .e .given .1) _ (c .refused .ensures)
 
 pub commit-packets-spec : {M : Type 1} → statement M
 commit-packets-spec =

@@ -2,9 +2,10 @@
 -- Assumes nothing.
 use mathlib.Core.Path.{refl}
 use borrow.Author.Needs.{needs}
+use Rattle.ring.proofs.Pigeonhole.{front-free}
 use Rattle.ring.proofs.Wide.{Wide}
 use Rattle.stream.proofs.Arrays.{arrays}
-use Rattle.ledger.proofs.View.{facts}
+use Rattle.ledger.proofs.View.{facts, own-tabled}
 use Rattle.front.proofs.Taking.{took-slot, took-nothing}
 use Rattle.front.proofs.take_front.Statement.{statement}
 use Rattle.front.proofs.take_front.Tie as tie
@@ -13,7 +14,10 @@ wide : (c : tie.Start) → Wide (c .args .s .ring)
 wide c = arrays (c .args .s) (c .good .0)
 
 take-free-requires : tie.Need-take-free-requires
-take-free-requires c κs = let d = c .before in facts (d .args .s) (d .pre .0) (wide d) .short
+take-free-requires c κs =
+    let d = c .before in
+    let f = facts (d .args .s) (d .pre .0) (wide d) in
+    (f .short, own-tabled (d .args .s) (d .pre .0) (wide d), λ slot rest q. front-free f slot rest q .1)
 
 returns : tie.Need-returns
 returns c =

@@ -3,15 +3,15 @@
 use mathlib.Core.Path.{_≡_, sym, _∙_}
 use borrow.Author.Needs.{needs}
 use Rattle.gate.specs.declared.Gate.{Gate}
-use Rattle.gate.specs.Gate.{blockGate, idleHand, andThen, idleGate}
+use Rattle.gate.specs.Gate.{blockTest, idleHand, andThen, idleTest}
 use Rattle.gate.proofs.idle_gate.Statement.{statement}
 use Rattle.gate.proofs.idle_gate.Tie as tie
 
-opened : (c : tie.After-enum-told) → blockGate (c .before .before .before .args .s) (c .before .before .before .args .lent) ≡ Gate.Open
+opened : (c : tie.After-enum-told) → let a = c .before .before .before .args in blockTest (a .is-sound) (a .setup) (a .lent) ≡ Gate.Open
 opened c = sym (c .before .before .block-gate .ensures) ∙ c .enum-told .given .1
 
 pub idle-gate-spec : {M : Type 1} → statement M
-unfolding idleGate andThen idleHand
+unfolding idleTest andThen idleHand
 idle-gate-spec =
     tie.close
     (tie.spec

@@ -1,17 +1,18 @@
--- `reaped::noticed` meets its contract: each arm knows the slot's state, and so its mark in the ledger.
+-- `reaped::noticed` meets its contract: whether the slot is out and Discarding says its mark in the ledger.
 -- Assumes nothing.
 use mathlib.Core.Path.{_≡_, refl, sym, ap, _∙_}
-use mathlib.Core.Bool.{true, false}
+use mathlib.Core.Bool.{Bool, true, false, cond, true≢false, false≢true}
+use Prim.Native.Nat.{_<_}
 use native.Mathlib.Omega.{arith}
 use borrow.Author.Needs.{needs}
 use Rattle.ring.specs.declared.SlotState.{SlotState}
-use Rattle.ring.specs.Parts.{stateOf}
-use Rattle.ring.specs.Slots.{isOut}
+use Rattle.ring.specs.Parts.{stateOf, Tabled}
+use Rattle.ring.specs.Slots.{isDiscarding, isOut}
 use Rattle.ring.proofs.Wide.{Wide}
 use Rattle.stream.proofs.Arrays.{arrays}
-use Rattle.ledger.specs.Ledger.{markOf}
+use Rattle.ledger.specs.Ledger.{Mark, home, out, discarded, markOf}
 use Rattle.ledger.specs.Record.{markFor, view}
-use Rattle.ledger.proofs.View.{facts, view-mark}
+use Rattle.ledger.proofs.View.{facts, own-tabled, view-mark}
 use Rattle.reaped.proofs.Replies.{by-mark, notice-stray}
 use Rattle.reaped.proofs.noticed.Statement.{statement}
 use Rattle.reaped.proofs.noticed.Tie as tie
@@ -19,76 +20,57 @@ use Rattle.reaped.proofs.noticed.Tie as tie
 wide : (c : tie.Start) → Wide (c .args .s .ring)
 wide c = arrays (c .args .s) (c .good .0)
 
--- the slot's state, and its mark by that
-state : (c : tie.After-state) (x : SlotState) → c .state .result ≡ x → let a = c .before .before .before .args in stateOf (a .s .ring) (a .i) ≡ x
-state c x e = sym (c .state .ensures) ∙ e
+-- what the ring's tests ask
+known : (c : tie.Start) → Tabled (c .args .s .ring) × (c .args .i < 256)
+known c =
+    (own-tabled (c .args .s) (c .pre .0) (wide c), omega (arith, facts (c .args .s) (c .pre .0) (wide c) .few, c .pre .2))
 
-mark : (c : tie.After-state) (x : SlotState) → c .state .result ≡ x → let a = c .before .before .before .args in markOf (view (a .s)) (a .i) ≡ markFor x
-mark c x e =
-    let d = c .before .before .before in
-    view-mark (d .args .s) (d .pre .0) (wide d) (d .args .i) (d .pre .2) ∙ ap markFor (state c x e)
+-- the mark of a slot that is out, and of one that is not
+mark-out : (x : SlotState) → isOut x ≡ true → markFor x ≡ cond (isDiscarding x) discarded out
+unfolding isOut isDiscarding markFor
+mark-out SlotState.Free e = absurd (false≢true e)
+mark-out SlotState.Filling e = absurd (false≢true e)
+mark-out SlotState.InFlight e = refl
+mark-out SlotState.Discarding e = refl
 
-state-requires : tie.Need-state-requires
-state-requires c κs = let d = c .before .before in omega (arith, facts (d .args .s) (d .pre .0) (wide d) .few, d .pre .2)
+mark-home : (x : SlotState) → isOut x ≡ false → markFor x ≡ home
+unfolding isOut markFor
+mark-home SlotState.Free e = refl
+mark-home SlotState.Filling e = refl
+mark-home SlotState.InFlight e = absurd (true≢false e)
+mark-home SlotState.Discarding e = absurd (true≢false e)
+
+mark : (c : tie.Start) → let a = c .args in markOf (view (a .s)) (a .i) ≡ markFor (stateOf (a .s .ring) (a .i))
+mark c = view-mark (c .args .s) (c .pre .0) (wide c) (c .args .i) (c .pre .2)
 
 reaped-slot-requires : tie.Need-reaped-slot-requires
-unfolding isOut
 reaped-slot-requires c κs =
-    let found = c .before .before in
-    let d = found .before .before .before in
-    (d .pre .0, d .pre .1, d .pre .2, rw (state found _ (c .enum-told3 .given .1)), d .pre .3)
-
-reaped-slot-requires-2 : tie.Need-reaped-slot-requires-2
-unfolding isOut
-reaped-slot-requires-2 c κs =
-    let found = c .before .before in
-    let d = found .before .before .before in
-    (d .pre .0, d .pre .1, d .pre .2, rw (state found _ (c .enum-told4 .given .1)), d .pre .3)
+    let d = c .before .before .before .before .before in
+    (d .pre .0, d .pre .1, d .pre .2, sym (c .before .is-out .ensures) ∙ c .if1 .taken, d .pre .3)
 
 returns : tie.Need-returns
-unfolding markFor
 returns c =
-    let found = c .before .before .before in
-    let d = found .before .before .before in
-    by-mark (d .args .s) (d .args .i) (d .args .block .now) _ (mark found _ (c .before .enum-told .given .1)) _
-    (notice-stray (d .args .s) (d .pre .0) (wide d) (d .args .i) (d .args .block .now) _ (c .refused .ensures))
+    let test = c .before in
+    let told = test .before .before in
+    let d = told .before .before .before in
+    by-mark (d .args .s) (d .args .i) (d .args .block .now) _
+    (mark d ∙ mark-out _ (sym (test .before .is-out .ensures) ∙ test .if1 .taken) ∙ ap (λ (b : Bool). cond b discarded out) (sym (told .is-discarding .ensures)))
+    _ (c .reaped-slot .ensures)
 
 returns-2 : tie.Need-returns-2
-unfolding markFor
 returns-2 c =
-    let found = c .before .before .before in
-    let d = found .before .before .before in
-    by-mark (d .args .s) (d .args .i) (d .args .block .now) _ (mark found _ (c .before .enum-told2 .given .1)) _
-    (notice-stray (d .args .s) (d .pre .0) (wide d) (d .args .i) (d .args .block .now) _ (c .refused2 .ensures))
-
-returns-3 : tie.Need-returns-3
-unfolding markFor
-returns-3 c =
-    let found = c .before .before .before in
-    let d = found .before .before .before in
-    by-mark (d .args .s) (d .args .i) (d .args .block .now) _ (mark found _ (c .before .enum-told3 .given .1)) _ (c .reaped-slot .ensures)
-
-returns-4 : tie.Need-returns-4
-unfolding markFor
-returns-4 c =
-    let found = c .before .before .before in
-    let d = found .before .before .before in
-    by-mark (d .args .s) (d .args .i) (d .args .block .now) _ (mark found _ (c .before .enum-told4 .given .1)) _ (c .reaped-slot2 .ensures)
+    let test = c .before in
+    let d = test .before .before .before .before .before in
+    by-mark (d .args .s) (d .args .i) (d .args .block .now) _ (mark d ∙ mark-home _ (sym (test .before .is-out .ensures) ∙ test .if1 .left)) _
+    (notice-stray (d .args .s) (d .pre .0) (wide d) (d .args .i) (d .args .block .now) _ (c .refused .ensures))
 
 pub noticed-spec : {M : Type 1} → statement M
 noticed-spec =
     tie.close
     (tie.spec
-    state-requires
-    (λ c. search needs)
-    (λ c κs. search needs)
-    (λ c. search needs)
-    (λ c κs. search needs)
-    (λ c. search needs)
+    (λ c κs. known (c .before .before))
+    (λ c κs. known (c .before .before .before))
     reaped-slot-requires
-    (λ c. search needs)
-    reaped-slot-requires-2
+    (λ c κs. search needs)
     returns
-    returns-2
-    returns-3
-    returns-4)
+    returns-2)

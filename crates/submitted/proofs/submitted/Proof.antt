@@ -1,7 +1,7 @@
--- `submitted::submitted` meets its contract: refused by the gate; refused by the hand; else what `sent` or `silent` gives is the rule's outcome.
+-- `submitted::submitted` meets its contract: the pieces of its test are the test of 8; refused by the gate; refused by the hand; else what `sent` or `silent` gives is the rule's outcome.
 -- Assumes nothing.
 use mathlib.Core.Path.{_≡_, refl, sym, ap, _∙_}
-use mathlib.Core.Bool.{true}
+use mathlib.Core.Bool.{true, _&&_}
 use mathlib.Core.List.{List}
 use Prim.Native.Nat.{ℕ}
 use borrow.Author.Needs.{needs}
@@ -15,6 +15,8 @@ use Rattle.stream.specs.declared.Answer.{Answer}
 use Rattle.stream.specs.declared.Reply.{Reply}
 use Rattle.stream.specs.Sound.{sound}
 use Rattle.stream.proofs.Arrays.{arrays}
+use Rattle.stream.proofs.Joined.{joined}
+use Rattle.stream.proofs.Soundness.{setup-admissible}
 use Rattle.ledger.specs.Calls.{submitted, rule, lentTo, stepOf}
 use Rattle.ledger.specs.Record.{view}
 use Rattle.ledger.specs.Step.{refused}
@@ -24,30 +26,47 @@ use Rattle.ledger.proofs.Calls.{told-gives}
 use Rattle.gate.specs.declared.Gate.{Gate}
 use Rattle.gate.specs.declared.Lent.{Lent}
 use Rattle.gate.specs.Gate.{blockGate}
-use Rattle.gate.proofs.Gates.{block-open, block-refused, hand-refused, past-block}
+use Rattle.gate.proofs.Gates.{block-is, block-open, block-refused, hand-refused, past-block}
 use Rattle.submitted.proofs.submitted.Statement.{statement}
 use Rattle.submitted.proofs.submitted.Tie as tie
 
--- the gate is open
-opened : (c : tie.After-enum-told) → let a = c .before .before .before .before .args in blockGate (a .s) (Lent.Block (length (a .block .now))) ≡ Gate.Open
-opened c = sym (c .before .before .block-gate .ensures) ∙ c .enum-told .given .1
+-- the test is that of 8
+tested : (c : tie.After-count-sound) → let hand = c .before .before in (((hand .before .admissible .result && hand .hand-sound .result) && c .before .out-sound .result) && c .count-sound .result) ≡ sound (hand .before .before .before .before .before .before .args .s)
+tested c =
+    let out = c .before in
+    let hand = out .before in
+    let setup = hand .before in
+    let home = setup .before in
+    let d = home .before .before .before .before in
+    joined (d .args .s) (arrays (d .args .s) (d .good .0)) _ (home .home .ensures) (setup .admissible .ensures) (hand .hand-sound .ensures) (out .out-sound .ensures) (c .count-sound .ensures)
 
-passed : (c : tie.After-enum-told) → let a = c .before .before .before .before .args in (sound (a .s) ≡ true) × (length (a .block .now) ≡ totalOf (a .s .setup))
-passed c = let a = c .before .before .before .before .args in block-open (a .s) (Lent.Block _) (a .block .now) refl (opened c)
+block-gate-requires : tie.Need-block-gate-requires
+block-gate-requires c κs = λ p. setup-admissible _ (sym (tested c) ∙ p)
+
+-- what the gate tells
+gate : (c : tie.After-block-gate) → let a = c .before .before .before .before .before .before .before .before .before .args in c .block-gate .result ≡ blockGate (a .s) (Lent.Block (length (a .block .now)))
+gate c = block-is _ _ (tested (c .before)) (c .block-gate .ensures)
+
+-- it is open
+opened : (c : tie.After-enum-told) → let a = c .before .before .before .before .before .before .before .before .before .before .before .args in blockGate (a .s) (Lent.Block (length (a .block .now))) ≡ Gate.Open
+opened c = sym (gate (c .before .before)) ∙ c .enum-told .given .1
+
+passed : (c : tie.After-enum-told) → let a = c .before .before .before .before .before .before .before .before .before .before .before .args in (sound (a .s) ≡ true) × (length (a .block .now) ≡ totalOf (a .s .setup))
+passed c = let a = c .before .before .before .before .before .before .before .before .before .before .before .args in block-open (a .s) (Lent.Block _) (a .block .now) refl (opened c)
 
 -- past the gate, by the hand
-by-hand : (c : tie.After-enum-told) (h : Hand) → let a = c .before .before .before .before .args in a .s .hand ≡ h → stepOf (a .s .setup) (submitted (a .reply) (a .block .now)) (view (a .s)) ≡ Submitted.bySending (a .reply) h (a .s .setup) (view (a .s)) (a .block .now)
+by-hand : (c : tie.After-enum-told) (h : Hand) → let a = c .before .before .before .before .before .before .before .before .before .before .before .args in a .s .hand ≡ h → stepOf (a .s .setup) (submitted (a .reply) (a .block .now)) (view (a .s)) ≡ Submitted.bySending (a .reply) h (a .s .setup) (view (a .s)) (a .block .now)
 unfolding rule lentTo Submitted.submitted Submitted.submittedHand view
 by-hand c h e =
-    let a = c .before .before .before .before .args in
+    let a = c .before .before .before .before .before .before .before .before .before .before .before .args in
     past-block (a .s) (Lent.Block (length (a .block .now))) (submitted (a .reply) (a .block .now)) (Submitted.submittedHand (a .reply)) refl refl (passed c .1) ∙
     ap (λ (x : Hand). Submitted.bySending (a .reply) x (a .s .setup) (view (a .s)) (a .block .now)) e
 
 -- refused by the hand
-wrong : (c : tie.After-enum-told) (h : Hand) → let a = c .before .before .before .before .args in a .s .hand ≡ h → Submitted.bySending (a .reply) h (a .s .setup) (view (a .s)) (a .block .now) ≡ refused Error.WrongHand (view (a .s)) (a .block .now) → (r : Reply) → r ≡ record { stream = a .s; answer = Answer.Refused Error.WrongHand } → Told (submitted (a .reply) (a .block .now)) (a .s) (r .answer) (r .stream) (a .block .now)
+wrong : (c : tie.After-enum-told) (h : Hand) → let a = c .before .before .before .before .before .before .before .before .before .before .before .args in a .s .hand ≡ h → Submitted.bySending (a .reply) h (a .s .setup) (view (a .s)) (a .block .now) ≡ refused Error.WrongHand (view (a .s)) (a .block .now) → (r : Reply) → r ≡ record { stream = a .s; answer = Answer.Refused Error.WrongHand } → Told (submitted (a .reply) (a .block .now)) (a .s) (r .answer) (r .stream) (a .block .now)
 unfolding rule lentTo Submitted.submitted Submitted.submittedHand view
 wrong c h e refuses r f =
-    let d = c .before .before .before .before in
+    let d = c .before .before .before .before .before .before .before .before .before .before .before in
     let a = d .args in
     rw f
     (hand-refused (a .s) (Lent.Block (length (a .block .now))) (submitted (a .reply) (a .block .now)) (Submitted.submittedHand (a .reply)) refl refl
@@ -72,11 +91,11 @@ returns : tie.Need-returns
 unfolding rule lentTo Submitted.submitted
 returns c =
     let e = c .before .before in
-    let d = e .before .before .before .before in
+    let d = e .before .before .before .before .before .before .before .before .before .before .before in
     let a = d .args in
     rw (c .refused .ensures)
     (block-refused (a .s) (Lent.Block _) (submitted (a .reply) (a .block .now)) (Submitted.submittedHand (a .reply)) refl refl (arrays (a .s) (d .good .0)) _
-    (sym (e .before .before .block-gate .ensures) ∙ e .e .given .1))
+    (sym (gate (e .before .before)) ∙ e .e .given .1))
 
 returns-2 : tie.Need-returns-2
 unfolding Submitted.bySending
@@ -106,6 +125,11 @@ submitted-spec =
     tie.close
     (tie.spec
     (λ c κs. search needs)
+    (λ c κs. search needs)
+    (λ c κs. search needs)
+    (λ c κs. search needs)
+    (λ c κs. search needs)
+    block-gate-requires
     (λ c. search needs)
     (λ c κs. search needs)
     (λ c. search needs)

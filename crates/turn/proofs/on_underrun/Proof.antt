@@ -1,6 +1,6 @@
 -- `turn::on_underrun` meets its contract: each arm knows the policy, and what its callee gives on the record after the count is what the rule
 -- says of the ledger after the count. Assumes nothing.
-use mathlib.Core.Path.{_≡_, _∙_}
+use mathlib.Core.Path.{_≡_, sym, ap, subst, _∙_}
 use mathlib.Core.Bool.{true}
 use mathlib.Core.List.{List}
 use Prim.Native.Nat.{ℕ}
@@ -12,16 +12,20 @@ use Rattle.ring.specs.declared.Hand.{Hand}
 use Rattle.ring.proofs.Wide.{Wide}
 use Rattle.stream.proofs.Arrays.{arrays}
 use Rattle.stream.specs.declared.Reply.{Reply}
+use Rattle.stream.specs.declared.Stream.{Stream}
+use Rattle.stream.proofs.Soundness.{setup-admissible}
 use Rattle.stream.specs.Sound.{sound}
 use Rattle.ledger.specs.Ledger.{Ledger}
 use Rattle.ledger.specs.Step.{Next}
 use Rattle.ledger.specs.Turn.{takeFront, silenceFront, underrun, onUnderrun}
 use Rattle.ledger.specs.Record.{view}
 use Rattle.ledger.proofs.Kept.{underrun-valid}
-use Rattle.ledger.proofs.Valid.{Valid, sound-valid}
+use Rattle.ledger.proofs.Calls.{stored-setup}
+use Rattle.ledger.proofs.Valid.{Valid, sound-valid, stored-wide}
 use Rattle.ledger.specs.Gives.{Gives}
 use Rattle.front.proofs.Again.{sound-again, hand-again, total-again, gives-again}
-use Rattle.front.proofs.Taking.{take-lent}
+use Rattle.front.specs.Front.{afterSilence}
+use Rattle.front.proofs.Taking.{silent-below, silenced-front, take-lent}
 use Rattle.turn.proofs.Underruns.{underrun-queue, underrun-hand, by-policy, told-underrun}
 use Rattle.turn.proofs.on_underrun.Statement.{statement}
 use Rattle.turn.proofs.on_underrun.Tie as tie
@@ -54,8 +58,31 @@ from-count c =
 take-front-requires : tie.Need-take-front-requires
 take-front-requires c κs = let w = ready (c .before .before .before) in (w .0, w .1)
 
-silence-front-requires : tie.Need-silence-front-requires
-silence-front-requires c κs = ready (c .before .before .before .before)
+take-silent-requires : tie.Need-take-silent-requires
+take-silent-requires c κs = let w = ready (c .before .before .before) in (w .0, w .1)
+
+-- the record after the count: its words and arrays, and that it has the same values
+to-wide : (c : tie.After-count-underrun) → Wide (c .count-underrun .result .ring)
+to-wide c =
+    let d = c .before .before in
+    ap-wide (c .count-underrun .ensures) (stored-wide (d .args .s) _ (valid d) (setup-admissible (d .args .s) (d .pre .0)) (wide d))
+  where
+    ap-wide : {a b : Stream} → a ≡ b → Wide (b .ring) → Wide (a .ring)
+    ap-wide e w = subst (λ (x : Stream). Wide (x .ring)) (sym e) w
+
+to-setup : (c : tie.After-count-underrun) → c .count-underrun .result .setup ≡ c .before .before .args .s .setup
+to-setup c = ap (λ (x : Stream). x .setup) (c .count-underrun .ensures) ∙ stored-setup (c .before .before .args .s) _
+
+silence-taken-requires : tie.Need-silence-taken-requires
+silence-taken-requires c κs =
+    let took = c .before .before in
+    let counted = took .before .before .before .before in
+    let d = counted .before .before in
+    let to = counted .count-underrun .result in (
+      setup-admissible (d .args .s) (d .pre .0),
+      λ i held. rw (← to-setup counted) (silent-below to (ready counted .0) (to-wide counted) 1 _ (took .take-silent .ensures) i held),
+      d .pre .2,
+    )
 
 returns : tie.Need-returns
 unfolding onUnderrun
@@ -72,13 +99,16 @@ returns c =
 returns-2 : tie.Need-returns-2
 unfolding onUnderrun
 returns-2 c =
-    let done = c .before .before in
-    let told = done .before .before in
+    let took = c .before .before .before .before .before in
+    let told = took .before in
     let counted = told .before .before .before in
     let d = counted .before .before in
+    let to = counted .count-underrun .result in
     let block = d .args .block .now in
     by-policy (d .args .s) block _ _ _ _ (told .enum-told2 .given .1)
-    (from-count counted (λ (st : Setup) (l : Ledger). silenceFront st 1 (l .queue) l block) _ _ (done .silence-front .ensures))
+    (from-count counted (λ (st : Setup) (l : Ledger). silenceFront st 1 (l .queue) l block) _ _
+    (silenced-front to (ready counted .0) (to-wide counted) 1 _ (took .take-silent .ensures) block _
+    (c .before .before .silence-taken .ensures ∙ ap (λ (st : Setup). afterSilence st (took .take-silent .result .stream .hand) block) (sym (to-setup counted)))))
 
 returns-3 : tie.Need-returns-3
 returns-3 c =
@@ -97,7 +127,8 @@ on-underrun-spec =
     (λ c. search needs)
     take-front-requires
     (λ c. search needs)
-    silence-front-requires
+    take-silent-requires
+    silence-taken-requires
     (λ c. search needs)
     (λ c κs. search needs)
     returns

@@ -1,120 +1,123 @@
--- `encoding::from_codes` meets its contract. The loop's invariant: the states of the first i slots are put, and those of them that are out are
--- counted. Assumes nothing.
+-- `encoding::from_codes` meets its contract: the four words make each mask, and a slot that there is no number of is read as Free.
+-- Assumes nothing.
 use mathlib.Core.Path.{_≡_, refl, sym, ap, _∙_}
-use mathlib.Core.List.{List, []}
-use Prim.Native.Nat.{ℕ, zero, suc, _+_, _-_, _≤_}
-use native.Mathlib.Numerals.{add-one}
+use mathlib.Core.Bool.{Bool}
+use mathlib.Core.List.{List}
+use Prim.Native.Nat.{ℕ, _+_, _*_, _≤_, _<_}
+use native.Mathlib.Decide.{decLt}
 use native.Mathlib.Omega.{arith}
 use borrow.Author.Needs.{needs}
-use lib.ListN.{length, getD, set, replicate, length-set}
-use Rattle.ring.specs.declared.Cell.{Cell}
-use Rattle.ring.specs.declared.Place.{Place}
+use lib.ListN.{length}
+use Rattle.mask.specs.Masks.{tableWord, maskOf}
+use Rattle.mask.proofs.Masks.{mask-made}
 use Rattle.ring.specs.declared.Ring.{Ring}
 use Rattle.ring.specs.declared.SlotState.{SlotState}
 use Rattle.ring.specs.declared.SlotState.the-variants.{Free}
-use Rattle.ring.specs.Slots.{isOut, one, placeOf}
+use Rattle.ring.specs.declared.SlotStates.{SlotStates}
 use Rattle.ring.specs.Counts.{howMany}
-use Rattle.encoding.specs.Codes.{stateFrom}
-use Rattle.ring.specs.Parts.{withState, withStates, ringWith}
-use Rattle.ring.proofs.Truth.{one-at-most}
-use Rattle.ring.proofs.Counts.{count-more}
-use Rattle.ring.proofs.States.{states-parts}
+use Rattle.ring.specs.Masks.{masksOf, firstOf}
+use Rattle.ring.specs.Parts.{ringWith}
+use Rattle.ring.specs.Slots.{isFilling, isInFlight, isDiscarding, isOut}
+use Rattle.ring.proofs.Counts.{count-at-most}
+use Rattle.ring.proofs.Masks.{masks-ext}
+use Rattle.ring.proofs.States.{first-below, first-above}
+use Rattle.encoding.specs.declared.codes.StateWords.{StateWords}
+use Rattle.encoding.proofs.StateNumbers.{stateRead, read-past}
+use Rattle.encoding.proofs.Digits.{count-past}
 use Rattle.encoding.proofs.codes.from_codes.Statement.{statement}
 use Rattle.encoding.proofs.codes.from_codes.Tie as tie
 
-state : List ℕ → ℕ → SlotState
-state codes i = stateFrom (getD codes i 0)
+-- what is read of word q
+abbrev Read : (ℕ → SlotState) → ℕ → StateWords → Type 0
+Read state q w =
+    (w .filling ≡ tableWord (λ i. isFilling (state i)) q) × (w .«in_flight» ≡ tableWord (λ i. isInFlight (state i)) q)
+    × (w .discarding ≡ tableWord (λ i. isDiscarding (state i)) q)
+    × (howMany (q * 64) (λ i. isOut (state i)) + w .out ≡ howMany (q * 64 + 64) (λ i. isOut (state i)))
 
--- the ring before its states are put
-blank : List ℕ → ℕ → ℕ → Ring
-blank free used out =
-    record { states = replicate 256 (record { state = Free }); free = free; «free_len» = used; «in_flight» = out }
+-- no slot counts none
+none-counted : (test : ℕ → Bool) → howMany 0 test ≡ 0
+unfolding howMany
+none-counted test = refl
 
-abbrev Inv-loop : tie.InvT-loop
-Inv-loop codes free free-len states₀ out₀ i₀ i-end states out i =
-    (i ≤ length codes) × (length states ≡ 256) × (states ≡ withStates i (state codes) (blank [] 0 0) .states)
-    × (out ≡ howMany i (λ j. isOut (state codes j))) × (out ≤ i)
+module _
+    (state : ℕ → SlotState)
+    (a b c d : StateWords)
+    (ra : Read state 0 a)
+    (rb : Read state 1 b)
+    (rc : Read state 2 c)
+    (rd : Read state 3 d) where
+  -- how many are out
+  counted : a .out + b .out + c .out + d .out ≡ howMany 256 (λ i. isOut (state i))
+  counted = omega (arith, none-counted (λ i. isOut (state i)))
 
-abbrev μ-loop : tie.MeasureT-loop
-μ-loop codes free free-len states₀ out₀ i₀ i-end states out i = length codes - i
+  few : a .out + b .out + c .out + d .out ≤ 256
+  few = omega (arith, counted, count-at-most (λ i. isOut (state i)) 256)
 
-loop-holds : tie.Need-loop-holds Inv-loop μ-loop
-unfolding withStates howMany blank
-loop-holds c = (search needs, ap length (c .all-free .ensures), c .all-free .ensures, refl, search needs)
+  -- the masks
+  masks : (n : ℕ) → ((i : ℕ) → n ≤ i → state i ≡ Free) → (m : SlotStates)
+      → m ≡ record {
+        filling = record { a = a .filling; b = b .filling; c = c .filling; d = d .filling };
+        «in_flight» = record { a = a .«in_flight»; b = b .«in_flight»; c = c .«in_flight»; d = d .«in_flight» };
+        discarding = record { a = a .discarding; b = b .discarding; c = c .discarding; d = d .discarding };
+      }
+      → m ≡ masksOf (firstOf n state)
+  unfolding masksOf maskOf
+  masks n past m e =
+      e
+      ∙ (λ k.
+      record {
+        filling = mask-made (ra .0) (rb .0) (rc .0) (rd .0) k;
+        «in_flight» = mask-made (ra .1) (rb .1) (rc .1) (rd .1) k;
+        discarding = mask-made (ra .2) (rb .2) (rc .2) (rd .2) k;
+      })
+      ∙ masks-ext state (firstOf n state) (λ i h. go i (decLt i n))
+    where
+      go : (i : ℕ) → Dec (i < n) → state i ≡ firstOf n state i
+      go i (yes l) = sym (first-below state n i l)
+      go i (no l) = past i (omega arith) ∙ sym (first-above state n i (omega arith))
 
--- a slot's part in the out count
-counted : (place : Place) (s : SlotState) → place ≡ placeOf s → (place .out ≡ one (isOut s)) × (place .out ≤ 1)
-unfolding placeOf
-counted place s e = (ap (λ (p : Place). p .out) e, rw e (one-at-most (isOut s)))
+-- the ring that they make
+whole : (codes free : List ℕ) (used out : ℕ) (m : SlotStates) → m ≡ masksOf (firstOf (length codes) (stateRead codes))
+    → length codes ≤ 256 → out ≡ howMany 256 (λ i. isOut (stateRead codes i))
+    → _≡_ {A = Ring} (record { states = m; free = free; «free_len» = used; «in_flight» = out }) (ringWith (length codes) (stateRead codes) free used)
+unfolding ringWith isOut
+whole codes free used out m e few p =
+    let count = p ∙ count-past (λ i. isOut (stateRead codes i)) (length codes) 256 few (λ i h. ap isOut (read-past codes i h)) in
+    λ k. record { states = e k; free = free; «free_len» = used; «in_flight» = count k }
 
-turned : (codes : List ℕ) (i : ℕ) (states : List Cell) (s : SlotState) → states ≡ withStates i (state codes) (blank [] 0 0) .states → s ≡ state codes i
-    → set states i (record { state = s }) ≡ withStates (i + 1) (state codes) (blank [] 0 0) .states
-unfolding withStates withState
-turned codes i states s e p = rw (add-one, e, p)
+-- the sum of the four counts fits
+few-out : (c : tie.After-read-slots4)
+    → c .before .before .before .read-slots .result .out + c .before .before .read-slots2 .result .out
+    + c .before .read-slots3 .result .out + c .read-slots4 .result .out ≤ 256
+few-out c =
+    few (stateRead (c .before .before .before .before .before .args .codes .now)) _ _ _ _
+    (c .before .before .before .read-slots .ensures) (c .before .before .read-slots2 .ensures)
+    (c .before .read-slots3 .ensures) (c .read-slots4 .ensures)
 
-more-out : (codes : List ℕ) (i out : ℕ) (s : SlotState) (place : Place) → out ≡ howMany i (λ j. isOut (state codes j)) → s ≡ state codes i → place ≡ placeOf s
-    → out + place .out ≡ howMany (i + 1) (λ j. isOut (state codes j))
-more-out codes i out s place e p q =
-    rw (count-more (λ j. isOut (state codes j)) i, counted place s q .0, e, p)
-
-add-out : tie.Need-add-out Inv-loop μ-loop
-add-out c = omega (arith, counted _ _ (c .before .place .ensures) .1)
-
-loop-again : tie.Need-loop-again Inv-loop μ-loop
-unfolding state
-loop-again c =
-    let at = c .before .before .before .before .before .loop in
-    let codes = c .before .before .before .before .before .before .before .before .args .codes .now in
-    let found = c .before .before .state-from .ensures in (
-      omega arith,
-      simp length-set (at .inv .1),
-      turned codes (at .i) (at .states) _ (at .inv .2) found,
-      more-out codes (at .i) (at .out) _ _ (at .inv .3) found (c .before .place .ensures),
-      omega (arith, counted _ _ (c .before .place .ensures) .1),
-    )
-
--- the states put into one blank ring are those put into another
-same-states : (f : ℕ → SlotState) (n : ℕ) (a b : Ring) → a .states ≡ b .states → withStates n f a .states ≡ withStates n f b .states
-unfolding withStates withState
-same-states f zero a b e = e
-same-states f (suc n) a b e = ap (λ (l : List Cell). set l n (record { state = f n })) (same-states f n a b e)
-
-whole : (codes free : List ℕ) (used i out : ℕ) (states : List Cell) → i ≡ length codes → states ≡ withStates i (state codes) (blank [] 0 0) .states
-    → out ≡ howMany i (λ j. isOut (state codes j))
-    → _≡_ {A = Ring} (record { states = states; free = free; «free_len» = used; «in_flight» = out }) (ringWith (length codes) (state codes) free used)
-unfolding ringWith blank
-whole codes free used i out states n e p =
-    let ring = blank free used (howMany (length codes) (λ j. isOut (state codes j))) in
-    let kept = states-parts (state codes) ring (length codes) in
-    λ k.
-    record {
-      states = (e ∙ ap (λ (m : ℕ). withStates m (state codes) (blank [] 0 0) .states) n ∙ same-states (state codes) (length codes) (blank [] 0 0) ring refl) k;
-      free = sym (kept .free) k;
-      «free_len» = sym (kept .len) k;
-      «in_flight» = (p ∙ ap (λ (m : ℕ). howMany m (λ j. isOut (state codes j))) n ∙ sym (kept .out)) k;
-    }
-
-returns : tie.Need-returns Inv-loop μ-loop
-unfolding state
+returns : tie.Need-returns
 returns c =
-    let at = c .before .loop in
-    let start = c .before .before .before .before in
-    whole (start .args .codes .now) (start .args .free) (start .args .free-len) (at .i) (at .out) (at .states) (omega arith) (at .inv .2) (at .inv .3)
+    let r = c .before .before .before .before .before in
+    let start = r .before .before .before .before .before in
+    let codes = start .args .codes .now in
+    let a = r .before .before .before .read-slots .ensures in
+    let b = r .before .before .read-slots2 .ensures in
+    let g = r .before .read-slots3 .ensures in
+    let d = r .read-slots4 .ensures in
+    whole codes (start .args .free) (start .args .free-len) _ _
+    (masks (stateRead codes) _ _ _ _ a b g d (length codes) (read-past codes) _ (c .before .before .before .before .new .ensures))
+    (start .pre)
+    (counted (stateRead codes) _ _ _ _ a b g d)
 
 pub from-codes-spec : {M : Type 1} → statement M
 from-codes-spec =
     tie.close
     (tie.spec
-    Inv-loop
-    μ-loop
     (λ c κs. search needs)
-    loop-holds
-    (λ c. search needs)
     (λ c κs. search needs)
-    (λ c. search needs)
     (λ c κs. search needs)
-    add-out
-    (λ c. search needs)
-    (λ c. search needs)
-    loop-again
+    (λ c κs. search needs)
+    (λ c κs. search needs)
+    (λ c. omega (arith, few-out (c .before .before .before)))
+    (λ c. omega (arith, few-out (c .before .before .before .before)))
+    (λ c. omega (arith, few-out (c .before .before .before .before .before)))
     returns)

@@ -29,6 +29,12 @@ head-matches-requires c κs =
     let few : c .before .before .before .read-setup .result .slots ≤ 256 = rw (setup, ← room .slots) (room .few) in
     (few, rw (c .read-used .ensures) (omega (arith, min-le-right (field 4 4 (start .args .image .now)) (start .args .n), room .few)), omega (arith, room .long))
 
+-- what read_stats asks for lies too far back for the search
+read-stats-requires : tie.Need-read-stats-requires
+read-stats-requires c κs =
+    let room = c .before .before .before .before .before .before .before .before .before .before .before .before .pre in
+    (room .few, room .long)
+
 -- the bytes match where header and setup, the states and the queue do
 record Decided (m h a b : Bool) : Type 0 where
   is : m ≡ (h && (a && b))
@@ -122,6 +128,6 @@ read-parts-spec =
     (λ c κs. search needs)
     returns-3
     (λ c κs. search needs)
-    (λ c κs. search needs)
+    read-stats-requires
     (λ c κs. search needs)
     record-is)

@@ -1,0 +1,4 @@
+pub mod Laws
+pub mod Masks
+pub mod Operations
+pub mod Lists
