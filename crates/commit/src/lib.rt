@@ -2,7 +2,7 @@
 use error::Error;
 use gate::InHand;
 use gate::Lent;
-use gate::held_gate;
+use gate::held_test;
 use gate::put_back;
 use gate::refused;
 use gate::with_hand;
@@ -42,7 +42,7 @@ fn slot_in_hand(s: Stream, block_len: usize) -> InHand
         & ring.hand_sound(n, hand)
         & ring.out_sound(n, home)
         & ring.count_sound(n, hand);
-    held_gate(is_sound, setup, hand, Lent::Block(block_len))
+    held_test(is_sound, setup, hand, Lent::Block(block_len))
 }
 
 // Internal: the most bytes that a slot holds.

@@ -33,8 +33,7 @@ fn with_flags(s: Stream, ring: Ring, flags: Flags) -> Stream
 pub fn give_back(s: Stream) -> Reply
     ensures { λ r. ⌜ Told Call.giveBack s (r .answer) (r .stream) [] ⌝ }
 {
-    let hand = s.hand;
-    match held_gate(s.sound(), s.setup, hand, Lent::Nothing) {
+    match held_gate(s, Lent::Nothing) {
         InHand::Slot(i) => put_back(s, i, Answer::Done),
         InHand::Refused(e) => refused(s, e),
     }
@@ -45,8 +44,7 @@ pub fn give_back(s: Stream) -> Reply
 pub fn start(s: Stream) -> Reply
     ensures { λ r. ⌜ Told Call.start s (r .answer) (r .stream) [] ⌝ }
 {
-    let hand = s.hand;
-    match idle_gate(s.sound(), s.setup, hand, Lent::Nothing) {
+    match idle_gate(s, Lent::Nothing) {
         Gate::Refused(e) => refused(s, e),
         Gate::Open => {
             let flags = s.flags;
@@ -71,8 +69,7 @@ pub fn start(s: Stream) -> Reply
 pub fn stop(s: Stream, list: &mut [usize]) -> Reply
     ensures { λ r. ⌜ Told (Call.stop (now (list .entry))) s (r .answer) (r .stream) (now (list .exit)) ⌝ }
 {
-    let hand = s.hand;
-    match idle_gate(s.sound(), s.setup, hand, Lent::Nothing) {
+    match idle_gate(s, Lent::Nothing) {
         Gate::Refused(e) => refused(s, e),
         Gate::Open => {
             let ring = s.ring;
@@ -102,8 +99,7 @@ pub fn stop(s: Stream, list: &mut [usize]) -> Reply
 pub fn finish(s: Stream) -> Reply
     ensures { λ r. ⌜ Told Call.finish s (r .answer) (r .stream) [] ⌝ }
 {
-    let hand = s.hand;
-    match idle_gate(s.sound(), s.setup, hand, Lent::Nothing) {
+    match idle_gate(s, Lent::Nothing) {
         Gate::Refused(e) => refused(s, e),
         Gate::Open => {
             let ring = s.ring;

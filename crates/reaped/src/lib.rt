@@ -7,7 +7,7 @@ use error::ErrnoContext;
 use error::Error;
 use gate::Gate;
 use gate::Lent;
-use gate::idle_gate;
+use gate::idle_test;
 use gate::refused;
 use notice::complete;
 use notice::slot_of_urb;
@@ -135,7 +135,7 @@ pub fn reaped(s: Stream, reply: Reaping, block: &[u8]) -> Reply
         & ring.hand_sound(n, hand)
         & ring.out_sound(n, home)
         & ring.count_sound(n, hand);
-    match idle_gate(is_sound, setup, hand, Lent::Block(block.len())) {
+    match idle_test(is_sound, setup, hand, Lent::Block(block.len())) {
         Gate::Refused(e) => refused(s, e),
         Gate::Open => reaped_idle(s, reply, block),
     }

@@ -7,6 +7,7 @@ use mask::Mask;
 ghost use mathlib.Core.Path.{_≡_};
 ghost use lib.ListN.{take};
 ghost use Rattle.ring.specs.Parts.{queueOf};
+ghost use Rattle.ring.specs.Sound.{soundRing};
 ghost use Rattle.ring.specs.Tests.{handTest, HomeOf, outTest, countTest};
 
 // Internal: walks the queue from the slots that are Filling. A slot that was met before is there twice.
@@ -86,5 +87,15 @@ impl Ring {
     {
         let home = std::num::wrapping_add_usize(self.free_len, hand.count());
         home <= n && self.in_flight == n - home
+    }
+    // Whether the ring of n slots and the hand break nothing of refusal 8's list, whatever they hold: the pieces joined.
+    pub fn sound(self, n: usize, hand: Hand) -> bool
+        ensures { λ r. ⌜ r ≡ soundRing n self hand ⌝ }
+    {
+        if 256 < n {
+            return false;
+        }
+        let home = self.home(n);
+        self.hand_sound(n, hand) & self.out_sound(n, home) & self.count_sound(n, hand)
     }
 }

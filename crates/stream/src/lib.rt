@@ -90,19 +90,16 @@ impl Stream {
         }
     }
 
-    // Whether the record breaks nothing of refusal 8's list, whatever it holds. turn, commit_full, submitted and reaped
-    // join the pieces themselves: a call of this function would have the compiler store the record.
+    // Whether the record breaks nothing of refusal 8's list, whatever it holds.
     pub fn sound(self) -> bool
         ensures { λ r. ⌜ r ≡ sound self ⌝ }
     {
         let setup = self.setup;
+        if !setup.admissible() {
+            return false;
+        }
         let ring = self.ring;
         let hand = self.hand;
-        let n = setup.slots;
-        let home = ring.home(n);
-        setup.admissible()
-            & ring.hand_sound(n, hand)
-            & ring.out_sound(n, home)
-            & ring.count_sound(n, hand)
+        ring.sound(setup.slots, hand)
     }
 }

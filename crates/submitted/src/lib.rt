@@ -6,7 +6,7 @@ use front::take_front;
 use front::take_silent;
 use gate::Gate;
 use gate::Lent;
-use gate::block_gate;
+use gate::block_test;
 use gate::put_back;
 use gate::refused;
 use layout::Setup;
@@ -132,7 +132,7 @@ pub fn submitted(s: Stream, reply: Submission, block: &mut [u8]) -> Reply
         & ring.hand_sound(n, hand)
         & ring.out_sound(n, home)
         & ring.count_sound(n, hand);
-    match block_gate(is_sound, setup, Lent::Block(block.len())) {
+    match block_test(is_sound, setup, Lent::Block(block.len())) {
         Gate::Refused(e) => refused(s, e),
         Gate::Open => match hand {
             Hand::Idle => refused(s, Error::WrongHand),

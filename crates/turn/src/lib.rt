@@ -5,7 +5,7 @@ use front::take_front;
 use front::take_silent;
 use gate::Gate;
 use gate::Lent;
-use gate::idle_gate;
+use gate::idle_test;
 use gate::refused;
 use layout::Underrun;
 use stream::Flags;
@@ -97,7 +97,7 @@ pub fn turn(s: Stream, block: &mut [u8]) -> Reply
         & ring.hand_sound(n, hand)
         & ring.out_sound(n, home)
         & ring.count_sound(n, hand);
-    match idle_gate(is_sound, setup, hand, Lent::Block(block.len())) {
+    match idle_test(is_sound, setup, hand, Lent::Block(block.len())) {
         Gate::Refused(e) => refused(s, e),
         Gate::Open => turn_idle(s, block),
     }

@@ -30,4 +30,4 @@ slot-in-hand-spec =
     (λ c κs. search needs)
     (λ c κs. search needs)
     (λ c κs. λ p. setup-admissible _ (sym (tested c) ∙ p))
-    (λ c. held-is _ _ (tested (c .before)) (c .held-gate .ensures)))
+    (λ c. held-is _ _ (tested (c .before)) (c .held-test .ensures)))

@@ -12,38 +12,34 @@ use Rattle.ledger.specs.Control as Control
 use Rattle.gate.specs.declared.Gate.{Gate}
 use Rattle.gate.specs.declared.Lent.{Lent}
 use Rattle.gate.specs.Gate.{idleGate}
-use Rattle.gate.proofs.Gates.{gate-asks, idle-is, idle-open, idle-refused, idle-told}
+use Rattle.gate.proofs.Gates.{idle-open, idle-refused, idle-told}
 use Rattle.control.proofs.Unmoved.{finished}
 use Rattle.control.proofs.finish.Statement.{statement}
 use Rattle.control.proofs.finish.Tie as tie
 
--- the record's gate, by its own test
-gated : (c : tie.After-idle-gate) → c .idle-gate .result ≡ idleGate (c .before .before .args .s) Lent.Nothing
-gated c = idle-is (c .before .before .args .s) Lent.Nothing (c .before .sound .ensures) (c .idle-gate .ensures)
-
 -- the gate is open
-opened : (c : tie.After-enum-told) → idleGate (c .before .before .before .before .args .s) Lent.Nothing ≡ Gate.Open
-opened c = sym (gated (c .before .before)) ∙ c .enum-told .given .1
+opened : (c : tie.After-enum-told) → idleGate (c .before .before .before .args .s) Lent.Nothing ≡ Gate.Open
+opened c = sym (c .before .before .idle-gate .ensures) ∙ c .enum-told .given .1
 
 -- what the rule asks of the record
-known : (c : tie.After-enum-told) → let s = c .before .before .before .before .args .s in (sound s ≡ true) × Wide (s .ring)
+known : (c : tie.After-enum-told) → let s = c .before .before .before .args .s in (sound s ≡ true) × Wide (s .ring)
 known c =
-    let d = c .before .before .before .before in
+    let d = c .before .before .before in
     (idle-open (d .args .s) Lent.Nothing (lentTo finish) tt (opened c) .0, arrays (d .args .s) (d .good .0))
 
 returns : tie.Need-returns
 unfolding rule lentTo Control.finish
 returns c =
     let e = c .before .before in
-    let d = e .before .before .before .before in
+    let d = e .before .before .before in
     idle-refused (d .args .s) Lent.Nothing finish Control.finishIdle refl tt (arrays (d .args .s) (d .good .0)) _
-    (sym (gated (e .before .before)) ∙ e .e .given .1) _ (c .refused .ensures)
+    (sym (e .before .before .idle-gate .ensures) ∙ e .e .given .1) _ (c .refused .ensures)
 
 returns-2 : tie.Need-returns-2
 unfolding rule lentTo Control.finish
 returns-2 c =
     let told = c .before .before .before in
-    let s = told .before .before .before .before .args .s in
+    let s = told .before .before .before .args .s in
     idle-told s Lent.Nothing finish Control.finishIdle refl tt (opened told) _ _
     (finished s (known told .0) (known told .1) true (eq-eqb _ _ (c .if1 .taken)) _ refl)
 
@@ -51,7 +47,7 @@ returns-3 : tie.Need-returns-3
 unfolding rule lentTo Control.finish
 returns-3 c =
     let told = c .before .before .before .before in
-    let s = told .before .before .before .before .args .s in
+    let s = told .before .before .before .args .s in
     idle-told s Lent.Nothing finish Control.finishIdle refl tt (opened told) _ _
     (finished s (known told .0) (known told .1) false (ne-eqb _ _ (c .before .if1 .left)) _ (c .refused2 .ensures))
 
@@ -60,7 +56,6 @@ finish-spec =
     tie.close
     (tie.spec
     (λ c κs. search needs)
-    (λ c κs. gate-asks (c .before .args .s) Lent.Nothing (c .sound .ensures))
     (λ c. search needs)
     (λ c κs. search needs)
     (λ c. search needs)

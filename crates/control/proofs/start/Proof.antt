@@ -10,36 +10,32 @@ use Rattle.ledger.specs.Control as Control
 use Rattle.gate.specs.declared.Gate.{Gate}
 use Rattle.gate.specs.declared.Lent.{Lent}
 use Rattle.gate.specs.Gate.{idleGate}
-use Rattle.gate.proofs.Gates.{gate-asks, idle-is, idle-open, idle-refused, idle-told}
+use Rattle.gate.proofs.Gates.{idle-open, idle-refused, idle-told}
 use Rattle.control.proofs.Unmoved.{started}
 use Rattle.control.proofs.start.Statement.{statement}
 use Rattle.control.proofs.start.Tie as tie
 
--- the record's gate, by its own test
-gated : (c : tie.After-idle-gate) → c .idle-gate .result ≡ idleGate (c .before .before .args .s) Lent.Nothing
-gated c = idle-is (c .before .before .args .s) Lent.Nothing (c .before .sound .ensures) (c .idle-gate .ensures)
-
 -- the gate is open
-opened : (c : tie.After-enum-told) → idleGate (c .before .before .before .before .args .s) Lent.Nothing ≡ Gate.Open
-opened c = sym (gated (c .before .before)) ∙ c .enum-told .given .1
+opened : (c : tie.After-enum-told) → idleGate (c .before .before .before .args .s) Lent.Nothing ≡ Gate.Open
+opened c = sym (c .before .before .idle-gate .ensures) ∙ c .enum-told .given .1
 
 returns : tie.Need-returns
 unfolding rule lentTo Control.start
 returns c =
     let e = c .before .before in
-    let d = e .before .before .before .before in
+    let d = e .before .before .before in
     idle-refused (d .args .s) Lent.Nothing start Control.startIdle refl tt (arrays (d .args .s) (d .good .0)) _
-    (sym (gated (e .before .before)) ∙ e .e .given .1) _ (c .refused .ensures)
+    (sym (e .before .before .idle-gate .ensures) ∙ e .e .given .1) _ (c .refused .ensures)
 
 -- a first start has armed off, a second one has it as it was
-armed : (c : tie.Joined1) → let s = c .before .before .before .before .before .before .args .s in c .if1 .armed ≡ cond (s .flags .started) (s .flags .armed) false
+armed : (c : tie.Joined1) → let s = c .before .before .before .before .before .args .s in c .if1 .armed ≡ cond (s .flags .started) (s .flags .armed) false
 armed c = ⊎-elim (λ w. rw (w .0 .taken) (w .1)) (λ w. rw (w .0 .left) (w .1)) (c .if1 .came)
 
 returns-2 : tie.Need-returns-2
 unfolding rule lentTo Control.start
 returns-2 c =
     let told = c .before .before .before in
-    let d = told .before .before .before .before in
+    let d = told .before .before .before in
     let s = d .args .s in
     idle-told s Lent.Nothing start Control.startIdle refl tt (opened told) _ _
     (started s (idle-open s Lent.Nothing (lentTo start) tt (opened told) .0) (arrays s (d .good .0)) _ (armed (c .before)) _ (c .with-flags .ensures))
@@ -49,7 +45,6 @@ start-spec =
     tie.close
     (tie.spec
     (λ c κs. search needs)
-    (λ c κs. gate-asks (c .before .args .s) Lent.Nothing (c .sound .ensures))
     (λ c. search needs)
     (λ c κs. search needs)
     (λ c. search needs)

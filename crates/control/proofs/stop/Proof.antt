@@ -12,23 +12,19 @@ use Rattle.ledger.proofs.View.{own-tabled}
 use Rattle.gate.specs.declared.Gate.{Gate}
 use Rattle.gate.specs.declared.Lent.{Lent}
 use Rattle.gate.specs.Gate.{idleGate}
-use Rattle.gate.proofs.Gates.{gate-asks, idle-is, idle-open, idle-refused, idle-told}
+use Rattle.gate.proofs.Gates.{idle-open, idle-refused, idle-told}
 use Rattle.control.proofs.Stopped.{count-fits, too-short, all-stopped}
 use Rattle.control.proofs.stop.Statement.{statement}
 use Rattle.control.proofs.stop.Tie as tie
 
--- the record's gate, by its own test
-gated : (c : tie.After-idle-gate) → c .idle-gate .result ≡ idleGate (c .before .before .before .args .s) Lent.Nothing
-gated c = idle-is (c .before .before .before .args .s) Lent.Nothing (c .before .sound .ensures) (c .idle-gate .ensures)
-
 -- the gate is open
-opened : (c : tie.After-enum-told) → idleGate (c .before .before .before .before .before .args .s) Lent.Nothing ≡ Gate.Open
-opened c = sym (gated (c .before .before)) ∙ c .enum-told .given .1
+opened : (c : tie.After-enum-told) → idleGate (c .before .before .before .before .args .s) Lent.Nothing ≡ Gate.Open
+opened c = sym (c .before .before .idle-gate .ensures) ∙ c .enum-told .given .1
 
 -- what the rule asks of the record
-known : (c : tie.After-enum-told) → let s = c .before .before .before .before .before .args .s in (sound s ≡ true) × Wide (s .ring)
+known : (c : tie.After-enum-told) → let s = c .before .before .before .before .args .s in (sound s ≡ true) × Wide (s .ring)
 known c =
-    let d = c .before .before .before .before .before in
+    let d = c .before .before .before .before in
     (idle-open (d .args .s) Lent.Nothing (d .args .list .now) tt (opened c) .0, arrays (d .args .s) (d .good .0))
 
 returns : tie.Need-returns
@@ -36,7 +32,7 @@ unfolding rule lentTo Control.stop
 returns c =
     let found = c .before .before in
     let told = found .before .before .before in
-    let a = told .before .before .before .before .before .args in
+    let a = told .before .before .before .before .args in
     idle-told (a .s) Lent.Nothing (stop (a .list .now)) Control.stopIdle refl tt (opened told) _ _
     (too-short (a .s) (known told .0) (known told .1) _ (found .list .ensures) (a .list .now) (c .before .if1 .taken) _ (c .refused2 .ensures))
 
@@ -54,9 +50,9 @@ returns-2 : tie.Need-returns-2
 unfolding rule lentTo Control.stop
 returns-2 c =
     let e = c .before .before in
-    let d = e .before .before .before .before .before in
+    let d = e .before .before .before .before in
     idle-refused (d .args .s) Lent.Nothing (stop (d .args .list .now)) Control.stopIdle refl tt (arrays (d .args .s) (d .good .0)) _
-    (sym (gated (e .before .before)) ∙ e .e .given .1) _ (c .refused .ensures)
+    (sym (e .before .before .idle-gate .ensures) ∙ e .e .given .1) _ (c .refused .ensures)
 
 returns-3 : tie.Need-returns-3
 unfolding rule lentTo Control.stop
@@ -66,7 +62,7 @@ returns-3 c =
     let tested = written .before .before in
     let found = tested .before in
     let told = found .before .before .before in
-    let a = told .before .before .before .before .before .args in
+    let a = told .before .before .before .before .args in
     idle-told (a .s) Lent.Nothing (stop (a .list .now)) Control.stopIdle refl tt (opened told) _ _
     (all-stopped (a .s) (known told .0) (known told .1) _ (found .list .ensures) (a .list .now) (tested .if1 .left)
     _ (marked .mark-discarding .ensures) _ (c .with-flags .ensures) _ (written .write-list .ensures))
@@ -76,7 +72,6 @@ stop-spec =
     tie.close
     (tie.spec
     (λ c κs. search needs)
-    (λ c κs. gate-asks (c .before .before .args .s) Lent.Nothing (c .sound .ensures))
     (λ c. search needs)
     (λ c κs. search needs)
     (λ c. search needs)

@@ -1,29 +1,13 @@
--- `gate::idle_gate` meets its contract: the first arm knows the refusal of 8 or 6, each other one the case of the hand.
--- Assumes nothing.
-use mathlib.Core.Path.{_≡_, sym, _∙_}
+-- `gate::idle_gate` meets its contract: it goes by the record's own test. Assumes nothing.
 use borrow.Author.Needs.{needs}
-use Rattle.gate.specs.declared.Gate.{Gate}
-use Rattle.gate.specs.Gate.{blockTest, idleHand, andThen, idleTest}
+use Rattle.gate.proofs.Gates.{gate-asks, idle-is}
 use Rattle.gate.proofs.idle_gate.Statement.{statement}
 use Rattle.gate.proofs.idle_gate.Tie as tie
 
-opened : (c : tie.After-enum-told) → let a = c .before .before .before .args in blockTest (a .is-sound) (a .setup) (a .lent) ≡ Gate.Open
-opened c = sym (c .before .before .block-gate .ensures) ∙ c .enum-told .given .1
-
 pub idle-gate-spec : {M : Type 1} → statement M
-unfolding idleTest andThen idleHand
 idle-gate-spec =
     tie.close
     (tie.spec
     (λ c κs. search needs)
-    (λ c. search needs)
-    (λ c. search needs)
-    (λ c. search needs)
-    (λ c. search needs)
-    (λ c. search needs)
-    (λ c. search needs)
-    (λ c. rw (sym (c .before .before .before .block-gate .ensures) ∙ c .before .e .given .1))
-    (λ c. rw (opened (c .before .before), c .enum-told2 .given .1))
-    (λ c. rw (opened (c .before .before), c .enum-told3 .given .1))
-    (λ c. rw (opened (c .before .before), c .enum-told4 .given .1))
-    (λ c. rw (opened (c .before .before), c .enum-told5 .given .1)))
+    (λ c κs. gate-asks (c .before .args .s) (c .before .args .lent) (c .sound .ensures))
+    (λ c. idle-is (c .before .before .args .s) (c .before .before .args .lent) (c .before .sound .ensures) (c .idle-test .ensures)))

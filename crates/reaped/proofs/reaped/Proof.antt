@@ -27,12 +27,12 @@ tested c =
     let d = home .before .before .before .before in
     joined (d .args .s) (arrays (d .args .s) (d .good .0)) _ (home .home .ensures) (setup .admissible .ensures) (hand .hand-sound .ensures) (out .out-sound .ensures) (c .count-sound .ensures)
 
-idle-gate-requires : tie.Need-idle-gate-requires
-idle-gate-requires c κs = λ p. setup-admissible _ (sym (tested c) ∙ p)
+idle-test-requires : tie.Need-idle-test-requires
+idle-test-requires c κs = λ p. setup-admissible _ (sym (tested c) ∙ p)
 
 -- what the gate tells
-gate : (c : tie.After-idle-gate) → let a = c .before .before .before .before .before .before .before .before .before .args in c .idle-gate .result ≡ idleGate (a .s) (Lent.Block (length (a .block .now)))
-gate c = idle-is _ _ (tested (c .before)) (c .idle-gate .ensures)
+gate : (c : tie.After-idle-test) → let a = c .before .before .before .before .before .before .before .before .before .args in c .idle-test .result ≡ idleGate (a .s) (Lent.Block (length (a .block .now)))
+gate c = idle-is _ _ (tested (c .before)) (c .idle-test .ensures)
 
 -- it is open
 opened : (c : tie.After-enum-told) → let a = c .before .before .before .before .before .before .before .before .before .before .before .args in idleGate (a .s) (Lent.Block (length (a .block .now))) ≡ Gate.Open
@@ -68,7 +68,7 @@ reaped-spec =
     (λ c κs. search needs)
     (λ c κs. search needs)
     (λ c κs. search needs)
-    idle-gate-requires
+    idle-test-requires
     (λ c. search needs)
     (λ c κs. search needs)
     (λ c. search needs)

@@ -40,12 +40,12 @@ tested c =
     let d = home .before .before .before .before in
     joined (d .args .s) (arrays (d .args .s) (d .good .0)) _ (home .home .ensures) (setup .admissible .ensures) (hand .hand-sound .ensures) (out .out-sound .ensures) (c .count-sound .ensures)
 
-block-gate-requires : tie.Need-block-gate-requires
-block-gate-requires c κs = λ p. setup-admissible _ (sym (tested c) ∙ p)
+block-test-requires : tie.Need-block-test-requires
+block-test-requires c κs = λ p. setup-admissible _ (sym (tested c) ∙ p)
 
 -- what the gate tells
-gate : (c : tie.After-block-gate) → let a = c .before .before .before .before .before .before .before .before .before .args in c .block-gate .result ≡ blockGate (a .s) (Lent.Block (length (a .block .now)))
-gate c = block-is _ _ (tested (c .before)) (c .block-gate .ensures)
+gate : (c : tie.After-block-test) → let a = c .before .before .before .before .before .before .before .before .before .args in c .block-test .result ≡ blockGate (a .s) (Lent.Block (length (a .block .now)))
+gate c = block-is _ _ (tested (c .before)) (c .block-test .ensures)
 
 -- it is open
 opened : (c : tie.After-enum-told) → let a = c .before .before .before .before .before .before .before .before .before .before .before .args in blockGate (a .s) (Lent.Block (length (a .block .now))) ≡ Gate.Open
@@ -129,7 +129,7 @@ submitted-spec =
     (λ c κs. search needs)
     (λ c κs. search needs)
     (λ c κs. search needs)
-    block-gate-requires
+    block-test-requires
     (λ c. search needs)
     (λ c κs. search needs)
     (λ c. search needs)

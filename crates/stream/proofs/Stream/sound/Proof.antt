@@ -1,27 +1,19 @@
--- `Stream::sound` meets its contract: the pieces joined are the test.
+-- `Stream::sound` meets its contract: it is the conjunction of the two tests.
 -- Assumes nothing.
+use mathlib.Core.Path.{sym, _∙_}
 use borrow.Author.Needs.{needs}
-use Rattle.stream.proofs.Arrays.{arrays}
-use Rattle.stream.proofs.Joined.{joined}
+use borrow.Author.Tests.{not-true, not-false}
 use Rattle.stream.proofs.Stream.sound.Statement.{statement}
 use Rattle.stream.proofs.Stream.sound.Tie as tie
+use Rattle.stream.specs.Sound.{sound}
 
 returns : tie.Need-returns
-returns c =
-    let out = c .before in
-    let hand = out .before in
-    let setup = hand .before in
-    let home = setup .before in
-    let d = home .before .before .before in
-    joined (d .args .self) (arrays (d .args .self) (d .good .0)) _ (home .home .ensures) (setup .admissible .ensures) (hand .hand-sound .ensures) (out .out-sound .ensures) (c .count-sound .ensures)
+unfolding sound
+returns c = rw (sym (c .before .admissible .ensures) ∙ not-true _ (c .if1 .taken))
+
+returns-2 : tie.Need-returns-2
+unfolding sound
+returns-2 c = rw (sym (c .before .before .before .admissible .ensures) ∙ not-false _ (c .before .before .if1 .left)) (c .sound .ensures)
 
 pub sound-spec : {M : Type 1} → statement M
-sound-spec =
-    tie.close
-    (tie.spec
-    (λ c κs. search needs)
-    (λ c κs. search needs)
-    (λ c κs. search needs)
-    (λ c κs. search needs)
-    (λ c κs. search needs)
-    returns)
+sound-spec = tie.close (tie.spec (λ c κs. search needs) returns (λ c κs. search needs) returns-2)
