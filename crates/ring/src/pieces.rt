@@ -88,7 +88,7 @@ impl Ring {
         let home = std::num::wrapping_add_usize(self.free_len, hand.count());
         home <= n && self.in_flight == n - home
     }
-    // Whether the ring of n slots and the hand break nothing of refusal 8's list, whatever they hold: the pieces joined.
+    // Whether the ring of n slots and the hand break nothing of refusal 8's list, whatever they hold.
     pub fn sound(self, n: usize, hand: Hand) -> bool
         ensures { λ r. ⌜ r ≡ soundRing n self hand ⌝ }
     {
