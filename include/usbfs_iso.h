@@ -251,6 +251,8 @@ uint32_t usbfs_iso_finish(void *image, size_t image_len, void *out, size_t out_l
  * These write the four numbers of a schedule, as many whole ones as fit: derive from bInterval and the bytes of a
  * packet, plan from the endpoint's bmAttributes, wMaxPacketSize and bInterval. urbs is the count wanted, of which at
  * least 2 are given, or 0 to have depth_us microseconds of sound in flight. packets_per_urb is 1 where one has no wish.
+ * The interval is 2^(bInterval - 1) frames of 1000 us at Full, else units of 125 us: at most 1024 of them at Full, 8192
+ * at High, 32768 at Super and SuperPlus.
  * Refuse in this order, and then write none: 26 (plan), 21, 22, 23, 24, 3.
  */
 uint32_t usbfs_iso_derive(int32_t speed, uint8_t b_interval, uint64_t packet_bytes, uint64_t urbs, uint32_t depth_us,

@@ -32,7 +32,7 @@ static uint32_t derived(const struct wish *w, uint64_t numbers[4])
         return 24;
     if (w->packets_per_urb > MOST_PACKETS)
         return 3;
-    uint64_t times = (uint64_t)1 << (w->b_interval - 1), most = is_full ? 1024 : 8192;
+    uint64_t times = (uint64_t)1 << (w->b_interval - 1), most = is_full ? 1024 : w->speed == 3 ? 8192 : 32768;
     uint64_t interval = (is_full ? 1000 : 125) * (times < most ? times : most);
     uint64_t urbs = w->urbs != 0 ? w->urbs : rounded_up(rounded_up(w->depth_us, interval), w->packets_per_urb);
     numbers[0] = interval;
@@ -71,7 +71,7 @@ static void plan(struct wish w, uint8_t attributes, uint16_t max_packet_size, st
                                      w.packets_per_urb, out->bytes, out->length), refusal);
 }
 
-/* The paper's edges by number. */
+/* The paper's edges by number, and those of request 2026-05: Super and SuperPlus 14 to 16 with High's 15. */
 static void schedule_edges(struct lent *out)
 {
     static const struct {
@@ -81,6 +81,10 @@ static void schedule_edges(struct lent *out)
         {{3, 4, 192, 0, 20000, 8}, 1000, 3},  {{2, 11, 192, 0, 1, 1}, 1024000, 2}, {{2, 12, 192, 0, 1, 1}, 1024000, 2},
         {{3, 14, 192, 0, 1, 1}, 1024000, 2},  {{3, 16, 192, 0, 1, 1}, 1024000, 2}, {{3, 4, 192, 0, 0, 8}, 1000, 2},
         {{3, 4, 192, 1, 20000, 8}, 1000, 2},  {{6, 1, 192, UINT64_MAX, 0, 8}, 125, UINT64_MAX},
+        {{3, 15, 192, 0, 1, 1}, 1024000, 2},  {{5, 14, 192, 0, 1, 1}, 1024000, 2}, {{6, 14, 192, 0, 1, 1}, 1024000, 2},
+        {{5, 15, 192, 0, 1, 1}, 2048000, 2},  {{6, 15, 192, 0, 1, 1}, 2048000, 2}, {{5, 16, 192, 0, 1, 1}, 4096000, 2},
+        {{6, 16, 192, 0, 1, 1}, 4096000, 2},  {{5, 15, 192, 0, 20000000, 1}, 2048000, 10},
+        {{5, 16, 192, 0, 20000000, 1}, 4096000, 5},
     };
     in_part("schedules of the paper");
     for (unsigned k = 0; k < sizeof cases / sizeof cases[0]; k++) {

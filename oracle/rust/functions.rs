@@ -11,7 +11,8 @@ use crate::ring::RingLayout;
 use crate::schedule::{packet_interval_us, Depth, Schedule};
 use crate::{Error, Result, Speed};
 
-/// What the published Rust gives. None where it wraps around 2^64 and the paper says that it differs.
+/// What the published Rust gives, with the interval of `kernels_interval` where that has one. None where it wraps
+/// around 2^64 and the paper says that it differs.
 pub fn expected(q: &Question) -> Option<Figures> {
     Some(result(q)?.map_err(|e| match (q[0], refusal(&e)) {
         // The builder's refusal of an endpoint has a number of its own.
@@ -29,16 +30,19 @@ fn result(q: &Question) -> Option<Result<Values>> {
         function::FROM_RAW => Ok(vec![Some(speed_number(Speed::from_raw(a as u32 as i32)))]),
         function::FROM_DEVICE_PROBE => Ok(vec![Some(speed_number(Speed::from_device_probe(a as u8, b == 1)))]),
         function::PACKET_INTERVAL_US => {
-            packet_interval_us(Speed::from_raw(a as i32), b as u8).map(|us| vec![Some(u64::from(us))])
+            let (speed, b_interval) = (Speed::from_raw(a as i32), b as u8);
+            packet_interval_us(speed, b_interval)
+                .map(|us| vec![Some(u64::from(kernels_interval(speed, b_interval).unwrap_or(us)))])
         }
         function::BYTES_PER_INTERVAL => Ok(vec![Some(endpoint(1, a, 1).bytes_per_interval() as u64)]),
         function::DERIVE => {
             let (speed, depth, packets) = (Speed::from_raw(a as u32 as i32), depth(d, q[5]), packets(q[6], q[7]));
-            Schedule::derive(speed, b as u8, c as usize, depth, packets).map(|s| schedule(&s))
+            Schedule::derive(speed, b as u8, c as usize, depth, packets)
+                .map(|s| schedule(&with_kernels_interval(s, depth)))
         }
         function::PLAN => {
             let (speed, depth, packets) = (Speed::from_raw(a as u32 as i32), depth(q[5], q[6]), packets(q[7], q[8]));
-            plan(speed, &endpoint(b, c, d), depth, packets).map(|s| schedule(&s))
+            plan(speed, &endpoint(b, c, d), depth, packets).map(|s| schedule(&with_kernels_interval(s, depth)))
         }
         function::FROM_ERRNO => {
             let bytes = c as usize;
@@ -47,6 +51,31 @@ fn result(q: &Question) -> Option<Result<Values>> {
         }
         _ => return build(q),
     })
+}
+
+/// The interval by request 2026-05, where the Rust's is not the kernel's: it has High's cap on Super and SuperPlus too
+/// (docs/DIFFERENCES.md).
+fn kernels_interval(speed: Speed, b_interval: u8) -> Option<u32> {
+    match (speed, b_interval) {
+        (Speed::Super | Speed::SuperPlus, 15) => Some(2_048_000),
+        (Speed::Super | Speed::SuperPlus, 16) => Some(4_096_000),
+        _ => None,
+    }
+}
+
+/// The Rust's schedule; with the kernel's interval in it, and its URBs worked out from that, where the two differ.
+fn with_kernels_interval(mut s: Schedule, depth: Depth) -> Schedule {
+    let Some(interval) = kernels_interval(s.speed, s.b_interval) else {
+        return s;
+    };
+    s.packet_interval_us = interval;
+    let us = match depth {
+        Depth::Urbs(_) => return s,
+        Depth::Micros(us) => us as usize,
+        Depth::Millis(ms) => 1000 * ms as usize,
+    };
+    s.urbs = us.div_ceil(interval as usize).div_ceil(s.packets_per_urb).max(2);
+    s
 }
 
 fn layout(n: u64, p: u64, b: u64) -> Option<Result<Values>> {
@@ -97,7 +126,7 @@ fn build(q: &Question) -> Option<Result<Values>> {
         builder = builder.packets_per_urb(packets);
     }
     Some(builder.build().map(|out| {
-        let s = out.schedule();
+        let s = with_kernels_interval(*out.schedule(), depth);
         [s.urbs, s.packets_per_urb, s.packet_bytes].map(|v| Some(v as u64)).to_vec()
     }))
 }

@@ -133,7 +133,7 @@ fn plans(ask: &mut dyn FnMut(Question)) {
     for speed in SPEEDS {
         for attributes in [0, 1, 2, 3, 5, 13, 0xfd, 0xff] {
             for field in [0, 1, 0x188, 0x7ff, 0x800, 0x1188, 0x1400, 0x1fff, 0xffff] {
-                for interval in [0, 1, 4, 16, 17] {
+                for interval in [0, 1, 4, 15, 16, 17] {
                     for (depth, value) in [(0, 0), (0, 300), (1, 8001), (2, 20)] {
                         for (given, packets) in [(0, 0), (1, 0), (1, 8), (1, 129)] {
                             let arguments = [speed, attributes, field, interval, depth, value, given, packets];
@@ -148,11 +148,11 @@ fn plans(ask: &mut dyn FnMut(Question)) {
 
 fn builds(ask: &mut dyn FnMut(Question)) {
     for speed in [0, 2, 3, 6] {
-        for (known, interval) in [(0, 0), (1, 0), (1, 1), (1, 4), (1, 17)] {
+        for (known, interval) in [(0, 0), (1, 0), (1, 1), (1, 4), (1, 15), (1, 16), (1, 17)] {
             for (sized, size) in [(0, 0), (1, 0), (1, 1), (1, 100), (1, 49_152)] {
                 for (given, bytes) in [(0, 0), (1, 0), (1, 1), (1, 100), (1, 101)] {
                     for endpoint in [0, 1, 0x7f, 0x80, 0xff] {
-                        for (depth, value) in [(0, 0), (0, 3), (0, 256), (2, 8)] {
+                        for (depth, value) in [(0, 0), (0, 3), (0, 256), (2, 8), (2, 20_000)] {
                             for (chosen, packets) in [(0, 0), (1, 0), (1, 8), (1, 128), (1, 129)] {
                                 let first = [speed, known, interval, sized, size, given];
                                 let last = [bytes, endpoint, depth, value, chosen, packets];

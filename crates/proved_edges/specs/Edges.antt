@@ -1,4 +1,5 @@
--- The paper's "Edges by number", those marked P, in its order and about the definitions that the contracts cite.
+-- The paper's "Edges by number", those marked P, in its order and about the definitions that the contracts cite; after High's figures
+-- those of request 2026-05.
 use Prim.Native.Nat.{ℕ}
 use mathlib.Core.Bool.{false}
 use mathlib.Core.List.{List, [], _∷_, map}
@@ -147,6 +148,14 @@ pub record Edges : Type 0 where
   pub full-12 : packetIntervalUs Speed.Full 12 ≡ Interval.Micros 1024000
   pub high-14 : packetIntervalUs Speed.High 14 ≡ Interval.Micros 1024000
   pub high-16 : packetIntervalUs Speed.High 16 ≡ Interval.Micros 1024000
+  -- Request 2026-05: Super and SuperPlus 15: 2,048,000 µs; 16: 4,096,000 µs. Their 14 and High's 15 stay at 1,024,000 µs.
+  pub high-15 : packetIntervalUs Speed.High 15 ≡ Interval.Micros 1024000
+  pub super-14 : packetIntervalUs Speed.Super 14 ≡ Interval.Micros 1024000
+  pub super-15 : packetIntervalUs Speed.Super 15 ≡ Interval.Micros 2048000
+  pub super-16 : packetIntervalUs Speed.Super 16 ≡ Interval.Micros 4096000
+  pub super-plus-14 : packetIntervalUs Speed.SuperPlus 14 ≡ Interval.Micros 1024000
+  pub super-plus-15 : packetIntervalUs Speed.SuperPlus 15 ≡ Interval.Micros 2048000
+  pub super-plus-16 : packetIntervalUs Speed.SuperPlus 16 ≡ Interval.Micros 4096000
   -- wMaxPacketSize 1400 hex: 3072.
   pub size-1400 : bytesPerInterval (endpointOf 0x1400) ≡ 3072
   -- Two slots, FillSilence: start, turn Slot(0), commit, accepted, reaped 0, turn Submit(1), accepted Submit(0), accepted Nothing:

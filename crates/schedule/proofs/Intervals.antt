@@ -32,8 +32,8 @@ base-of Speed.SuperPlus base e = let z : base ≡ 125 = cc in omega arith
 pub base-bounds : (s : Speed) (base : ℕ) (r : ServiceInterval) → r ≡ serviceIntervalUs s → r ≡ ServiceInterval.Micros base → (0 < base) × (base ≤ 1000)
 base-bounds s base r e f = base-of s base (sym e ∙ f)
 
--- the cap on the multiplier is not zero, and at most 8192
-pub cap-bounds : (s : Speed) → (0 < maxIntervals s) × (maxIntervals s ≤ 8192)
+-- the cap on the multiplier is not zero, and at most 32768
+pub cap-bounds : (s : Speed) → (0 < maxIntervals s) × (maxIntervals s ≤ 32768)
 cap-bounds Speed.Unknown = omega arith
 cap-bounds Speed.Low = omega arith
 cap-bounds Speed.Full = omega arith
@@ -46,10 +46,10 @@ cap-bounds Speed.SuperPlus = omega arith
 pub shifted : (k : ℕ) → k < 16 → (1 * 2 ^ k) % 2 ^ 32 ≡ 2 ^ k
 shifted k h = shl-exact 1 k 32 (lit< tt) (omega arith) ∙ one-mul (2 ^ k)
 
-pub interval-fits : (base most m : ℕ) → base ≤ 1000 → most ≤ 8192 → m ≤ most → base * m < 2 ^ 32
+pub interval-fits : (base most m : ℕ) → base ≤ 1000 → most ≤ 32768 → m ≤ most → base * m < 2 ^ 32
 interval-fits base most m p q r =
-    let k : m ≤ 8192 = omega arith in
-    let h : base * m ≤ 1000 * 8192 = mul-le-mul p k in
+    let k : m ≤ 32768 = omega arith in
+    let h : base * m ≤ 1000 * 32768 = mul-le-mul p k in
     omega arith
 
 some-interval : (p q : Bool) (e : Error) (m us : ℕ) → 0 < m → cond p (Interval.Refused e) (cond q (Interval.Refused e) (Interval.Micros m)) ≡ Interval.Micros us → 0 < us

@@ -35,12 +35,12 @@ serviceIntervalUs Wireless = Unsupported
 serviceIntervalUs Super = Micros 125
 serviceIntervalUs SuperPlus = Micros 125
 
--- At most 1024 service intervals at Full, 8192 else. The Rust's cap: USB 2.0 has none.
+-- At most 1024 service intervals (Full) or 8192; on Super and SuperPlus 32,768 (request 2026-05). The kernel's caps: USB 2.0 has none.
 abbrev pub maxIntervals : Speed → ℕ
 maxIntervals Unknown = 8192
 maxIntervals Low = 8192
 maxIntervals Full = 1024
 maxIntervals High = 8192
 maxIntervals Wireless = 8192
-maxIntervals Super = 8192
-maxIntervals SuperPlus = 8192
+maxIntervals Super = 32768
+maxIntervals SuperPlus = 32768

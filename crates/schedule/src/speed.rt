@@ -64,7 +64,7 @@ impl Speed {
         }
     }
 
-    // The most service intervals between two packets, as the Rust caps them.
+    // The most service intervals between two packets, as the kernel caps them.
     pub fn max_intervals(self) -> u32
         ensures { λ r. ⌜ r ≡ maxIntervals self ⌝ }
     {
@@ -74,8 +74,8 @@ impl Speed {
             Speed::Full => 1024,
             Speed::High => 8192,
             Speed::Wireless => 8192,
-            Speed::Super => 8192,
-            Speed::SuperPlus => 8192,
+            Speed::Super => 32768,
+            Speed::SuperPlus => 32768,
         }
     }
 }

@@ -78,12 +78,17 @@ fn bytes_per_interval(field: u64, wrong: Wrong) -> u64 {
     field % 2048 * times
 }
 
-/// 21 speed other than Full, High, Super, SuperPlus; 22 bInterval outside 1..16.
+/// 21 speed other than Full, High, Super, SuperPlus; 22 bInterval outside 1..16. The caps of Super and SuperPlus are
+/// request 2026-05's.
 fn interval(speed: u64, b_interval: u64, wrong: Wrong) -> Result<u64, u64> {
     let (base, most) = match speed {
         2 if wrong == Wrong::FullSpeedCap8192 => (1000, 8192),
         2 => (1000, 1024),
-        3 | 5 | 6 => (125, 8192),
+        3 if wrong == Wrong::HighSpeedCap32768 => (125, 32_768),
+        3 => (125, 8192),
+        5 | 6 if wrong == Wrong::SuperSpeedCap8192 => (125, 8192),
+        5 | 6 if wrong == Wrong::SuperSpeedCap16384 => (125, 16_384),
+        5 | 6 => (125, 32_768),
         _ => return Err(21),
     };
     if !(1..=16).contains(&b_interval) {

@@ -29,6 +29,9 @@ pub enum Wrong {
     UnderrunKeepsArmed,
     StopKeepsStarted,
     FullSpeedCap8192,
+    HighSpeedCap32768,
+    SuperSpeedCap8192,
+    SuperSpeedCap16384,
     ReservedTimesThree,
     DepthRoundedDown,
     EndpointBeforeBytes,
@@ -46,7 +49,7 @@ pub enum Wrong {
 
 impl Wrong {
     /// Each mistake by its name.
-    pub const ALL: [(&'static str, Wrong); 39] = [
+    pub const ALL: [(&'static str, Wrong); 42] = [
         ("refused-commit-to-the-front", Wrong::RefusedCommitToTheFront),
         ("refused-commit-kept-in-hand", Wrong::RefusedCommitKeptInHand),
         ("start-clears-armed", Wrong::StartClearsArmed),
@@ -73,6 +76,9 @@ impl Wrong {
         ("underrun-keeps-armed", Wrong::UnderrunKeepsArmed),
         ("stop-keeps-started", Wrong::StopKeepsStarted),
         ("full-speed-cap-8192", Wrong::FullSpeedCap8192),
+        ("high-speed-cap-32768", Wrong::HighSpeedCap32768),
+        ("super-speed-cap-8192", Wrong::SuperSpeedCap8192),
+        ("super-speed-cap-16384", Wrong::SuperSpeedCap16384),
         ("reserved-times-three", Wrong::ReservedTimesThree),
         ("depth-rounded-down", Wrong::DepthRoundedDown),
         ("endpoint-before-bytes", Wrong::EndpointBeforeBytes),

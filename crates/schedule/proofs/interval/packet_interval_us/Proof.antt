@@ -1,4 +1,4 @@
--- `packet_interval_us` meets its contract: the service interval is at most 1000 µs and the multiplier at most 8192, so that the
+-- `packet_interval_us` meets its contract: the service interval is at most 1000 µs and the multiplier at most 32768, so that the
 -- product fits; a shift by less than 16 drops no bit. Assumes nothing.
 use mathlib.Core.Path.{_≡_, ap, ap₂, _∙_}
 use Prim.Native.Nat.{ℕ, _-_, _*_, _<_, min}
