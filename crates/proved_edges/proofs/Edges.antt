@@ -59,7 +59,7 @@ unfolding
     Control.startedLedger Control.startIdle Control.start
     Record.markFor Record.view Record.ringFor Record.stored Record.call
     Calls.rule Calls.lentTo Calls.made recordAfter
-    Hosts.opened Hosts.recordOf Hosts.callPlain Hosts.callLent eightCalls
+    Hosts.opened Hosts.callPlain Hosts.callLent eightCalls
 edges =
     record {
       layout-2-1-192 = refl;

@@ -32,7 +32,7 @@ use Rattle.ledger.specs.Notice.{slotOfUrb, packetsAt}
 use Rattle.ledger.specs.Record.{Outcome}
 use Rattle.ledger.specs.Calls.{turn, commit, submitted, reaped, start, made}
 use Rattle.history.specs.History.{recordAfter}
-use Rattle.proved_edges.specs.Hosts.{Host, opened, recordOf, callPlain, callLent}
+use Rattle.proved_edges.specs.Hosts.{Host, opened, callPlain, callLent}
 
 -- An answer is the refusal with that number.
 pub record Refuses {A : Type 0} (refused : Error → A) (answer : A) (number : ℕ) : Type 0 where
@@ -64,14 +64,14 @@ noticeOn address = made (reaped (Reaping.Address address) (openedBlock R)) (open
 -- start, turn, commit, accepted, reaped 0, turn, accepted, accepted.
 unfoldable pub eightCalls : Host
 eightCalls =
-    callLent two (submitted Submission.Accepted)
-    (callLent two (submitted Submission.Accepted)
-    (callLent two turn
-    (callLent two (reaped (Reaping.Address 65536))
-    (callLent two (submitted Submission.Accepted)
-    (callLent two (commit 192)
-    (callLent two turn
-    (callPlain two start
+    callLent (submitted Submission.Accepted)
+    (callLent (submitted Submission.Accepted)
+    (callLent turn
+    (callLent (reaped (Reaping.Address 65536))
+    (callLent (submitted Submission.Accepted)
+    (callLent (commit 192)
+    (callLent turn
+    (callPlain start
     (opened two))))))))
 
 -- An isochronous endpoint with this wMaxPacketSize.
@@ -180,7 +180,7 @@ pub record Edges : Type 0 where
       ∷ []
   -- submitted 3, completed 1, underruns 1.
   pub silence-counters :
-      recordOf two eightCalls .stats
+      eightCalls .stream .stats
       ≡ record {
         «urbs_submitted» = 3;
         «urbs_completed» = 1;
