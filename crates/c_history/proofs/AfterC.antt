@@ -52,7 +52,7 @@ store-front us vs rest e =
     ∙ ap (λ (r : List ℕ). us ++ r) (drop-at vs rest (0 + length us) (omega arith))
 
 -- what C is told by a call on the ledger l, with this behind the image
-abbrev says : Setup → Ledger → Call → List ℕ → List ℕ → FromC
+abbrev pub says : Setup → Ledger → Call → List ℕ → List ℕ → FromC
 says s l c rest out =
     let next = ruleFromC c s l (lentTo c) in
     told (next .answer) (ledgerImage s (next .ledger) ++ rest) (next .lent) out
@@ -95,7 +95,7 @@ module _ (s : Setup) (ok : admissible s ≡ true) (endpoint : s .endpoint < 256)
   reads-after h rest = round-trip s (ledgerAfter s h) ok (valid-after s ok h) (fits-after h) rest
 
   -- the image after a list, read
-  pub in-step-after : (h : List Call) → InStep s (recordIn (ledgerImage s (ledgerAfter s h))) (ledgerAfter s h)
+  in-step-after : (h : List Call) → InStep s (recordIn (ledgerImage s (ledgerAfter s h))) (ledgerAfter s h)
   in-step-after h =
       subst (λ (b : List ℕ). InStep s (recordIn b) (ledgerAfter s h)) (append-nil (ledgerImage s (ledgerAfter s h)))
       (record { setup = reads .setup; ok = image-sound _ (reads .is); wide = reads .wide; shown = reads .ledger })
@@ -105,7 +105,7 @@ module _ (s : Setup) (ok : admissible s ≡ true) (endpoint : s .endpoint < 256)
 
   module _ (first : List ℕ) (opened : first ≡ ledgerImage s (openedLedger (s .slots))) where
     -- a call on the image as the list left it
-    call-is : (h : List CCall) → imageAfter first h ≡ ledgerImage s (ledgerAfter s (callsOf h)) → (c : CCall) → madeFromC (c .call) (imageAfter first h ++ c .rest) (c .out) ≡ says s (ledgerAfter s (callsOf h)) (c .call) (c .rest) (c .out)
+    pub call-is : (h : List CCall) → imageAfter first h ≡ ledgerImage s (ledgerAfter s (callsOf h)) → (c : CCall) → madeFromC (c .call) (imageAfter first h ++ c .rest) (c .out) ≡ says s (ledgerAfter s (callsOf h)) (c .call) (c .rest) (c .out)
     call-is h image c =
         ap (λ (b : List ℕ). madeFromC (c .call) (b ++ c .rest) (c .out)) image
         ∙ made-is s (ledgerAfter s (callsOf h)) (c .rest) (reads-after (callsOf h) (c .rest)) (c .call) (c .out)
@@ -121,6 +121,10 @@ module _ (s : Setup) (ok : admissible s ≡ true) (endpoint : s .endpoint < 256)
         ap (λ (x : FromC). take (length (imageAfter first h)) (x .image)) (call-is h (image-after h) c)
         ∙ take-at (ledgerImage s (n .ledger)) (c .rest) (length (imageAfter first h)) long
         ∙ ap (ledgerImage s) (rule-in-numbers (c .call) s l .ledger)
+
+    -- the record that it shows is in step with the ledger
+    pub in-step-image : (h : List CCall) → InStep s (recordIn (imageAfter first h)) (ledgerAfter s (callsOf h))
+    in-step-image h = rw (image-after h) (in-step-after (callsOf h))
 
     pub logs-from-c : (h : List CCall) → cLog first h ≡ ledgerCLog s h
     unfolding cLog ledgerCLog

@@ -1,96 +1,29 @@
--- Demand 3 for calls from C, for every ring that C opened and every list of calls: opening leaves the image of the opened ledger, the calls keep the
--- image of the ledger (AfterC), and the record in it is in step with the ledger, of which history proves the rest. Assumes nothing.
-use Prim.Native.Nat.{ℕ, _+_, _^_, _≤_, _<_}
-use native.Mathlib.Omega.{arith}
-use mathlib.Core.Path.{_≡_, refl, ap, _∙_}
-use mathlib.Core.Bool.{Bool, true, false, cond}
+-- Demand 3 for calls from C, for every ring that C opened and every list of calls: opening leaves the image of the opened ledger (Opened), the calls
+-- keep the image of the ledger (AfterC), and the record in it is in step with the ledger, of which history proves the rest. Assumes nothing.
+use Prim.Native.Nat.{ℕ, _^_, _<_}
+use mathlib.Core.Path.{_≡_}
 use mathlib.Core.List.{List}
-use lib.Dec.{ltb}
-use lib.ListN.{length, take, drop, getD}
-use lib.Seq.{take-at}
-use borrow.Author.Tests.{ltb-false}
-use Rattle.error.proofs.Numbers.{never-0}
-use Rattle.sys.specs.Bytes.{store}
-use Rattle.sys.proofs.Store.{store-eq}
-use Rattle.layout.specs.declared.Laid.{Laid}
-use Rattle.layout.specs.declared.Setup.{Setup}
+use lib.ListN.{take, getD}
 use Rattle.layout.specs.Numbers.{setupFrom}
-use Rattle.layout.specs.Opening.{admissible}
-use Rattle.stream.specs.Numbers.{numbersOf}
-use Rattle.opening.specs.Refusals.{opens}
-use Rattle.opening.proofs.Refusals.{opened-layout}
-use Rattle.ledger.specs.Ledger.{openedLedger}
 use Rattle.history.proofs.Holds.{holds-after}
-use Rattle.image.specs.Image.{ledgerImage}
 use Rattle.image.specs.Reading.{imageSize, recordIn}
-use Rattle.image.proofs.Sizes.{ledger-image-long}
-use Rattle.from_c.specs.Told.{FromC, told}
-use Rattle.from_c.specs.FromC.{notAnImage}
-use Rattle.c_open.specs.Open.{namesNone, openedFromC, openFromC}
+use Rattle.c_open.specs.Open.{openFromC}
 use Rattle.c_history.specs.Calls.{CCall, callsOf, imageAfter}
 use Rattle.c_history.specs.Demand3.{Demand3FromC}
-use Rattle.c_history.proofs.AfterC.{in-step-after, image-after, logs-from-c}
-
--- What opening leaves where it returns 0.
-record Opens (s : Setup) (buffer : List ℕ) (f : FromC) : Type 0 where
-  ok : admissible s ≡ true
-  room : imageSize (s .slots) ≤ length buffer
-  image : f .image ≡ store 0 (ledgerImage s (openedLedger (s .slots))) buffer
-
--- 31 is not 0
-not-31 : (bytes lent out : List ℕ) → notAnImage bytes lent out .returned ≡ 0 → ⊥
-unfolding notAnImage told numbersOf
-not-31 bytes lent out e = omega arith
-
-by-room : (s : Setup) (block buffer out : List ℕ) → admissible s ≡ true → (short : Bool) → ltb (length buffer) (imageSize (s .slots)) ≡ short
-    → (done : FromC) → done .image ≡ store 0 (ledgerImage s (openedLedger (s .slots))) buffer
-    → cond short (notAnImage buffer block out) done .returned ≡ 0 → Opens s buffer (cond short (notAnImage buffer block out) done)
-by-room s block buffer out ok true e done is z = absurd (not-31 buffer block out z)
-by-room s block buffer out ok false e done is z = record { ok = ok; room = ltb-false (length buffer) (imageSize (s .slots)) e; image = is }
-
-by-layout : (s : Setup) (block buffer out : List ℕ) (o : Laid) → opens s (length block) ≡ o → openedFromC o s block buffer out .returned ≡ 0 → Opens s buffer (openedFromC o s block buffer out)
-unfolding openedFromC told numbersOf
-by-layout s block buffer out (Laid.Refused e) is z = absurd (never-0 e z)
-by-layout s block buffer out (Laid.Layout layout) is z =
-    by-room s block buffer out (opened-layout s (length block) layout is .admissible) _ refl _ refl z
-
-opened-image : (numbers block buffer out : List ℕ) → openFromC numbers block buffer out .returned ≡ 0 → Opens (setupFrom numbers) buffer (openFromC numbers block buffer out)
-unfolding openFromC
-opened-image numbers block buffer out = by (namesNone numbers)
-  where
-    s : Setup
-    s = setupFrom numbers
-
-    rest : FromC
-    rest = openedFromC (opens s (length block)) s block buffer out
-
-    by : (none : Bool) → cond none (notAnImage buffer block out) rest .returned ≡ 0 → Opens s buffer (cond none (notAnImage buffer block out) rest)
-    by true z = absurd (not-31 buffer block out z)
-    by false z = by-layout s block buffer out (opens s (length block)) refl z
-
--- the first image is the opened ledger's
-first-image : (s : Setup) (buffer : List ℕ) (f : FromC) → Opens s buffer f → take (imageSize (s .slots)) (f .image) ≡ ledgerImage s (openedLedger (s .slots))
-first-image s buffer f o =
-    let image = ledgerImage s (openedLedger (s .slots)) in
-    let long = ledger-image-long s (openedLedger (s .slots)) in
-    ap (take (imageSize (s .slots))) (o .image ∙ store-eq 0 image buffer (omega (arith, o .room)))
-    ∙ take-at image (drop (0 + length image) buffer) (imageSize (s .slots)) long
+use Rattle.c_history.proofs.Opened.{begins}
+use Rattle.c_history.proofs.AfterC.{in-step-image, logs-from-c}
 
 -- THE THEOREM: demand 3 for calls from C, wherever opening from C returns 0, for every list of calls.
 pub demand-3-from-c :
     (numbers block buffer out : List ℕ) → getD numbers 6 0 < 2 ^ 64 → openFromC numbers block buffer out .returned ≡ 0 →
     (h : List CCall) → Demand3FromC (setupFrom numbers) (take (imageSize (setupFrom numbers .slots)) (openFromC numbers block buffer out .image)) h
-unfolding setupFrom
 demand-3-from-c numbers block buffer out base done h =
     let s = setupFrom numbers in
-    let o = opened-image numbers block buffer out done in
     let first = take (imageSize (s .slots)) (openFromC numbers block buffer out .image) in
-    let opened = first-image s buffer (openFromC numbers block buffer out) o in
-    let endpoint : s .endpoint < 256 = omega arith in
-    let silence : s .«silence_byte» < 256 = omega arith in
+    let b = begins numbers block buffer out base done in
     record {
-      log = logs-from-c s (o .ok) endpoint silence base first opened h;
+      log = logs-from-c s (b .ok) (b .endpoint) (b .silence) (b .base) first (b .image) h;
       after =
-          holds-after s (o .ok) (callsOf h) (recordIn (imageAfter first h))
-          (rw (image-after s (o .ok) endpoint silence base first opened h) (in-step-after s (o .ok) endpoint silence base (callsOf h)));
+          holds-after s (b .ok) (callsOf h) (recordIn (imageAfter first h))
+          (in-step-image s (b .ok) (b .endpoint) (b .silence) (b .base) first (b .image) h);
     }

@@ -1,2 +1,3 @@
+pub mod Opened
 pub mod AfterC
 pub mod Demand3
