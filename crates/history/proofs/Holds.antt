@@ -89,7 +89,7 @@ module _ (s : Setup) (ok : admissible s ≡ true) (h : List Call) (r : Stream) (
       (sym (out-words i p), sym (hand-words i p), facts r (k .ok) (k .wide) .queued i (below i p))
       (one-state (stateOf (r .ring) i))
 
-  outs-words : outs (ledgerAfter s h .marks) ≡ howMany (s .slots) (λ i. Words.isOut s i (logOf s h))
+  pub outs-words : outs (ledgerAfter s h .marks) ≡ howMany (s .slots) (λ i. Words.isOut s i (logOf s h))
   unfolding shownBy shownIn
   outs-words =
       sym (ap (λ (x : Shown). x .outCount) shown) ∙

@@ -4,3 +4,5 @@ pub mod Words
 pub mod Sums
 pub mod Demand3
 pub mod Table
+pub mod Reached
+pub mod Shutdown

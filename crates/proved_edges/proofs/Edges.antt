@@ -37,7 +37,7 @@ use Rattle.ledger.specs.Record as Record
 use Rattle.ledger.specs.Calls as Calls
 use Rattle.history.specs.History.{recordAfter}
 use Rattle.proved_edges.specs.Hosts as Hosts
-use Rattle.proved_edges.specs.Edges.{Edges, eightCalls}
+use Rattle.proved_edges.specs.Edges.{Edges, eightCalls, sent, stoppedR, twoReturned, allReturned}
 
 pub edges : Edges
 unfolding
@@ -53,13 +53,13 @@ unfolding
     Notice.bufferBytes Notice.cookieOf Notice.slotAt Notice.slotOfUrb Notice.packetsAt Notice.requested Notice.short Notice.completionOf
     Step.refused Step.onBlock Step.byIdle Step.whenIdle Step.byHeld Step.whenHeld Step.putBack
     Turn.takeFront Turn.silenceFront Turn.drained Turn.oneUnderrun Turn.underrun Turn.onUnderrun Turn.turnIdle Turn.turn
-    Commit.send Commit.commitHeld Commit.commit
+    Commit.send Commit.commitHeld Commit.commit Commit.commitFull
     Submitted.oneSubmitted Submitted.acceptedLedger Submitted.sent Submitted.chained Submitted.silent Submitted.bySending Submitted.submittedHand Submitted.submitted
     Reaped.isZero Reaped.isGone Reaped.urbError Reaped.oneCompleted Reaped.noticed Reaped.byAddress Reaped.reapedIdle Reaped.reaped
-    Control.startedLedger Control.startIdle Control.start
+    Control.startedLedger Control.startIdle Control.start Control.discardAll Control.inFlightFrom Control.stopIdle Control.stop Control.finishIdle Control.finish
     Record.markFor Record.view Record.ringFor Record.stored Record.call
     Calls.rule Calls.lentTo Calls.made recordAfter
-    Hosts.opened Hosts.callPlain Hosts.callLent eightCalls
+    Hosts.opened Hosts.callPlain Hosts.callLent Hosts.kernelWrites eightCalls sent stoppedR twoReturned allReturned
 edges =
     record {
       layout-2-1-192 = refl;
@@ -90,4 +90,7 @@ edges =
       size-1400 = refl;
       silence-answers = refl;
       silence-counters = refl;
+      shutdown-answers = refl;
+      shutdown-at-stop = refl;
+      shutdown-counters = refl;
     }

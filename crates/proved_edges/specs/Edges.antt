@@ -1,12 +1,15 @@
 -- The paper's "Edges by number", those marked P, in its order and about the definitions that the contracts cite; after High's figures
--- those of request 2026-05.
-use Prim.Native.Nat.{ℕ}
-use mathlib.Core.Bool.{false}
+-- those of request 2026-05, and at the end the case of request 2026-12.
+use Prim.Native.Nat.{ℕ, _-_, _^_}
+use mathlib.Core.Bool.{true, false}
 use mathlib.Core.List.{List, [], _∷_, map}
 use mathlib.Core.Path.{_≡_}
-use lib.IntN.{pos}
+use lib.IntN.{ℤ, pos, negsuc}
+use lib.ListN.{drop}
 use Rattle.error.specs.declared.Error.{Error}
 use Rattle.error.specs.Number.{numberOf}
+use Rattle.sys.specs.Bytes.{le}
+use Rattle.sys.specs.Header.{statusAt}
 use Rattle.sys.specs.declared.descriptor.IsoPacketDesc.{IsoPacketDesc}
 use Rattle.schedule.specs.declared.speed.Speed.{Speed}
 use Rattle.schedule.specs.declared.interval.Interval.{Interval}
@@ -24,15 +27,16 @@ use Rattle.layout.specs.Numbers.{setupFrom}
 use Rattle.layout.specs.Places.{placesOf}
 use Rattle.ring.specs.declared.Found.{Found}
 use Rattle.stream.specs.declared.Answer.{Answer}
+use Rattle.stream.specs.declared.IsoStats.{IsoStats}
 use Rattle.stream.specs.declared.Reaping.{Reaping}
 use Rattle.stream.specs.declared.Submission.{Submission}
 use Rattle.opening.specs.Opened.{openedStream}
 use Rattle.opening.specs.Open.{openedBlock}
 use Rattle.ledger.specs.Notice.{slotOfUrb, packetsAt}
 use Rattle.ledger.specs.Record.{Outcome}
-use Rattle.ledger.specs.Calls.{turn, commit, submitted, reaped, start, made}
+use Rattle.ledger.specs.Calls.{turn, commit, commitFull, submitted, reaped, start, stop, finish, made}
 use Rattle.history.specs.History.{recordAfter}
-use Rattle.proved_edges.specs.Hosts.{Host, opened, callPlain, callLent}
+use Rattle.proved_edges.specs.Hosts.{Host, opened, callPlain, callLent, kernelWrites}
 
 -- An answer is the refusal with that number.
 pub record Refuses {A : Type 0} (refused : Error → A) (answer : A) (number : ℕ) : Type 0 where
@@ -73,6 +77,58 @@ eightCalls =
     (callLent turn
     (callPlain start
     (opened two))))))))
+
+-- The front slot is sent.
+unfoldable pub sent : Host → Host
+sent h = callLent (submitted Submission.Accepted) (callLent commitFull (callLent turn h))
+
+-- R with three out, and stop.
+unfoldable pub stoppedR : Host
+stoppedR = callPlain (stop (0 ∷ 0 ∷ 0 ∷ 0 ∷ [])) (sent (sent (sent (opened R))))
+
+-- Slots 2 and 1 are returned, in the other order than they were sent in; a notice of slot 3, which was not out; finish.
+unfoldable pub twoReturned : Host
+twoReturned =
+    callPlain finish
+    (callLent (reaped (Reaping.Address 65992))
+    (callLent (reaped (Reaping.Address 65688))
+    (callLent (reaped (Reaping.Address 65840))
+    stoppedR)))
+
+-- Slot 0 is returned with status -19; finish.
+unfoldable pub allReturned : Host
+allReturned =
+    callPlain finish
+    (callLent (reaped (Reaping.Address 65536))
+    (kernelWrites statusAt (le 4 (2 ^ 32 - 19))
+    twoReturned))
+
+-- A full slot of R that was discarded before any of it was played, with this status.
+abbrev pub discardedWith : ℤ → Answer
+discardedWith status =
+    Answer.Completed
+    (record {
+      status = status;
+      «actual_bytes» = 0;
+      «requested_bytes» = 800;
+      «short_bytes» = 800;
+      «packet_errors» = 0;
+      «was_discarded» = true;
+    })
+
+-- The counters with three full slots of R submitted, and nothing else.
+abbrev pub threeSubmitted : IsoStats
+threeSubmitted =
+    record {
+      «urbs_submitted» = 3;
+      «urbs_completed» = 0;
+      «bytes_submitted» = 2400;
+      «bytes_transferred» = 0;
+      «short_bytes» = 0;
+      «packet_errors» = 0;
+      «urb_errors» = 0;
+      underruns = 0;
+    }
 
 -- An isochronous endpoint with this wMaxPacketSize.
 abbrev pub endpointOf : ℕ → Endpoint
@@ -191,3 +247,17 @@ pub record Edges : Type 0 where
         «urb_errors» = 0;
         underruns = 1;
       }
+  -- Request 2026-12, R with three out: stop; two returned, in the other order, and 18 for a slot that was not out: 13; the third, with
+  -- status -19: Yes; the counters as at the stop.
+  pub shutdown-answers :
+      drop 9 (allReturned .answers)
+      ≡ Answer.Stopped 3
+      ∷ discardedWith (pos 0)
+      ∷ discardedWith (pos 0)
+      ∷ Answer.Refused Error.StrayNotice
+      ∷ Answer.Refused Error.Disconnected
+      ∷ discardedWith (negsuc 18)
+      ∷ Answer.Yes
+      ∷ []
+  pub shutdown-at-stop : stoppedR .stream .stats ≡ threeSubmitted
+  pub shutdown-counters : allReturned .stream .stats ≡ threeSubmitted

@@ -1,6 +1,7 @@
 -- A host that makes calls on a ring it opened, each on the record and the block as the call before it left them.
 use Prim.Native.Nat.{ℕ}
 use mathlib.Core.List.{List, [], _∷_, _++_}
+use Rattle.sys.specs.Bytes.{store}
 use Rattle.layout.specs.declared.Setup.{Setup}
 use Rattle.stream.specs.declared.Answer.{Answer}
 use Rattle.stream.specs.declared.Stream.{Stream}
@@ -29,3 +30,7 @@ unfoldable pub callLent : (List ℕ → Call) → Host → Host
 callLent c h =
     let outcome = made (c (h .block)) (h .stream) in
     record { stream = outcome .stream; answers = h .answers ++ (outcome .answer ∷ []); block = outcome .lent }
+
+-- Meanwhile the kernel writes these bytes into the block.
+unfoldable pub kernelWrites : ℕ → List ℕ → Host → Host
+kernelWrites at bytes h = record { stream = h .stream; answers = h .answers; block = store at bytes (h .block) }
