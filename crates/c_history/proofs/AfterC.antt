@@ -1,17 +1,15 @@
 -- The image after a list of calls from C is that of the ledger after the list, and C is told what the ledger says: by induction, since the image is
 -- read back as the ledger, the rule gives the next one, and its image takes the old one's place. Assumes nothing.
-use Prim.Native.Nat.{ℕ, _+_, _^_, _<_}
+use Prim.Native.Nat.{ℕ, _+_}
 use native.Mathlib.Omega.{arith}
 use mathlib.Core.Path.{_≡_, refl, sym, ap, ap₂, subst, _∙_}
-use mathlib.Core.Bool.{true}
 use mathlib.Core.List.{List, [], _∷_, _++_, append-nil}
 use lib.ListN.{length, take, length-append}
 use lib.Seq.{take-at, drop-at}
 use Rattle.sys.specs.Bytes.{store}
 use Rattle.sys.proofs.Store.{store-eq}
 use Rattle.layout.specs.declared.Setup.{Setup}
-use Rattle.layout.specs.Opening.{admissible}
-use Rattle.ledger.specs.Ledger.{Ledger, openedLedger}
+use Rattle.ledger.specs.Ledger.{Ledger}
 use Rattle.ledger.specs.Step.{Next}
 use Rattle.ledger.specs.Calls.{Call, turn, commit, commitFull, commitPackets, submitted, reaped, giveBack, start, stop, finish, rule, lentTo, stepOf}
 use Rattle.history.specs.History.{ledgerAfter}
@@ -26,6 +24,7 @@ use Rattle.from_c.specs.Told.{FromC, told}
 use Rattle.from_c.specs.FromC.{fromC}
 use Rattle.from_c.specs.Calls.{onList, ruleFromC, madeFromC}
 use Rattle.c_history.specs.Calls.{CCall, inNumbers, callsOf, imageAfter, cLog, ledgerCLog}
+use Rattle.c_history.proofs.Opened.{Begins}
 
 -- A rule from C gives the ledger and the answer of its call in numbers.
 pub record SameRule (a b : Next) : Type 0 where
@@ -72,15 +71,15 @@ made-is s l rest reads c out =
     (store-front (ledgerImage s (next .ledger)) (ledgerImage s l) rest (ledger-image-long s (next .ledger) ∙ sym (ledger-image-long s l))))
 
 -- the whole list
-module _ (s : Setup) (ok : admissible s ≡ true) (endpoint : s .endpoint < 256) (silence : s .«silence_byte» < 256) (base : s .base < 2 ^ 64) where
+module _ (s : Setup) (first : List ℕ) (b : Begins s first) where
   -- the counters are sums modulo 2^64
   fits-after : (h : List Call) → Fits s (ledgerAfter s h .totals)
   fits-after h =
-      let k = list-counted s (valid-after s ok) h in
+      let k = list-counted s (valid-after s (b .ok)) h in
       record {
-        endpoint = endpoint;
-        silence = silence;
-        base = base;
+        endpoint = b .endpoint;
+        silence = b .silence;
+        base = b .base;
         submitted = omega (arith, k .submitted);
         completed = omega (arith, k .completed);
         bytes-submitted = omega (arith, k .bytes-submitted);
@@ -92,41 +91,40 @@ module _ (s : Setup) (ok : admissible s ≡ true) (endpoint : s .endpoint < 256)
       }
 
   reads-after : (h : List Call) (rest : List ℕ) → Reads s (ledgerAfter s h) (ledgerImage s (ledgerAfter s h) ++ rest)
-  reads-after h rest = round-trip s (ledgerAfter s h) ok (valid-after s ok h) (fits-after h) rest
+  reads-after h rest = round-trip s (ledgerAfter s h) (b .ok) (valid-after s (b .ok) h) (fits-after h) rest
 
   -- the image after a list, read
   in-step-after : (h : List Call) → InStep s (recordIn (ledgerImage s (ledgerAfter s h))) (ledgerAfter s h)
   in-step-after h =
-      subst (λ (b : List ℕ). InStep s (recordIn b) (ledgerAfter s h)) (append-nil (ledgerImage s (ledgerAfter s h)))
+      subst (λ (bytes : List ℕ). InStep s (recordIn bytes) (ledgerAfter s h)) (append-nil (ledgerImage s (ledgerAfter s h)))
       (record { setup = reads .setup; ok = image-sound _ (reads .is); wide = reads .wide; shown = reads .ledger })
     where
       reads : Reads s (ledgerAfter s h) (ledgerImage s (ledgerAfter s h) ++ [])
       reads = reads-after h []
 
-  module _ (first : List ℕ) (opened : first ≡ ledgerImage s (openedLedger (s .slots))) where
-    -- a call on the image as the list left it
-    pub call-is : (h : List CCall) → imageAfter first h ≡ ledgerImage s (ledgerAfter s (callsOf h)) → (c : CCall) → madeFromC (c .call) (imageAfter first h ++ c .rest) (c .out) ≡ says s (ledgerAfter s (callsOf h)) (c .call) (c .rest) (c .out)
-    call-is h image c =
-        ap (λ (b : List ℕ). madeFromC (c .call) (b ++ c .rest) (c .out)) image
-        ∙ made-is s (ledgerAfter s (callsOf h)) (c .rest) (reads-after (callsOf h) (c .rest)) (c .call) (c .out)
+  -- a call on the image as the list left it
+  pub call-is : (h : List CCall) → imageAfter first h ≡ ledgerImage s (ledgerAfter s (callsOf h)) → (c : CCall) → madeFromC (c .call) (imageAfter first h ++ c .rest) (c .out) ≡ says s (ledgerAfter s (callsOf h)) (c .call) (c .rest) (c .out)
+  call-is h image c =
+      ap (λ (bytes : List ℕ). madeFromC (c .call) (bytes ++ c .rest) (c .out)) image
+      ∙ made-is s (ledgerAfter s (callsOf h)) (c .rest) (reads-after (callsOf h) (c .rest)) (c .call) (c .out)
 
-    pub image-after : (h : List CCall) → imageAfter first h ≡ ledgerImage s (ledgerAfter s (callsOf h))
-    unfolding imageAfter ledgerAfter callsOf told
-    image-after [] = opened
-    image-after (c ∷ h) =
-        let l = ledgerAfter s (callsOf h) in
-        let n = ruleFromC (c .call) s l (lentTo (c .call)) in
-        let long : length (ledgerImage s (n .ledger)) ≡ length (imageAfter first h) =
-        ledger-image-long s (n .ledger) ∙ sym (ledger-image-long s l) ∙ ap length (sym (image-after h)) in
-        ap (λ (x : FromC). take (length (imageAfter first h)) (x .image)) (call-is h (image-after h) c)
-        ∙ take-at (ledgerImage s (n .ledger)) (c .rest) (length (imageAfter first h)) long
-        ∙ ap (ledgerImage s) (rule-in-numbers (c .call) s l .ledger)
+  pub image-after : (h : List CCall) → imageAfter first h ≡ ledgerImage s (ledgerAfter s (callsOf h))
+  unfolding imageAfter ledgerAfter callsOf told
+  image-after [] = b .image
+  image-after (c ∷ h) =
+      let l = ledgerAfter s (callsOf h) in
+      let n = ruleFromC (c .call) s l (lentTo (c .call)) in
+      let long : length (ledgerImage s (n .ledger)) ≡ length (imageAfter first h) =
+      ledger-image-long s (n .ledger) ∙ sym (ledger-image-long s l) ∙ ap length (sym (image-after h)) in
+      ap (λ (x : FromC). take (length (imageAfter first h)) (x .image)) (call-is h (image-after h) c)
+      ∙ take-at (ledgerImage s (n .ledger)) (c .rest) (length (imageAfter first h)) long
+      ∙ ap (ledgerImage s) (rule-in-numbers (c .call) s l .ledger)
 
-    -- the record that it shows is in step with the ledger
-    pub in-step-image : (h : List CCall) → InStep s (recordIn (imageAfter first h)) (ledgerAfter s (callsOf h))
-    in-step-image h = rw (image-after h) (in-step-after (callsOf h))
+  -- the record that it shows is in step with the ledger
+  pub in-step-image : (h : List CCall) → InStep s (recordIn (imageAfter first h)) (ledgerAfter s (callsOf h))
+  in-step-image h = rw (image-after h) (in-step-after (callsOf h))
 
-    pub logs-from-c : (h : List CCall) → cLog first h ≡ ledgerCLog s h
-    unfolding cLog ledgerCLog
-    logs-from-c [] = refl
-    logs-from-c (c ∷ h) = ap₂ (λ (x : FromC) (before : List FromC). x ∷ before) (call-is h (image-after h) c) (logs-from-c h)
+  pub logs-from-c : (h : List CCall) → cLog first h ≡ ledgerCLog s h
+  unfolding cLog ledgerCLog
+  logs-from-c [] = refl
+  logs-from-c (c ∷ h) = ap₂ (λ (x : FromC) (before : List FromC). x ∷ before) (call-is h (image-after h) c) (logs-from-c h)

@@ -22,8 +22,6 @@ demand-3-from-c numbers block buffer out base done h =
     let first = take (imageSize (s .slots)) (openFromC numbers block buffer out .image) in
     let b = begins numbers block buffer out base done in
     record {
-      log = logs-from-c s (b .ok) (b .endpoint) (b .silence) (b .base) first (b .image) h;
-      after =
-          holds-after s (b .ok) (callsOf h) (recordIn (imageAfter first h))
-          (in-step-image s (b .ok) (b .endpoint) (b .silence) (b .base) first (b .image) h);
+      log = logs-from-c s first b h;
+      after = holds-after s (b .ok) (callsOf h) (recordIn (imageAfter first h)) (in-step-image s first b h);
     }

@@ -32,14 +32,9 @@ module _ (s : Setup) (first : List ℕ) (b : Begins s first) (before : List CCal
   abbrev stopped : List CCall
   stopped = record { call = stop list; rest = rest; out = out } ∷ before
 
-  image-is : (h : List CCall) → imageAfter first h ≡ ledgerImage s (ledgerAfter s (callsOf h))
-  image-is = image-after s (b .ok) (b .endpoint) (b .silence) (b .base) first (b .image)
-
-  in-step-at : (h : List CCall) → InStep s (recordIn (imageAfter first h)) (ledgerAfter s (callsOf h))
-  in-step-at = in-step-image s (b .ok) (b .endpoint) (b .silence) (b .base) first (b .image)
-
+  -- what a call tells C
   called : (h : List CCall) (c : CCall) → madeFromC (c .call) (imageAfter first h ++ c .rest) (c .out) ≡ says s (ledgerAfter s (callsOf h)) (c .call) (c .rest) (c .out)
-  called h = call-is s (b .ok) (b .endpoint) (b .silence) (b .base) first (b .image) h (image-is h)
+  called h = call-is s first b h (image-after s first b h)
 
   -- stop returned the number of the ledger's answer
   gave-done : said (stepOf s (stop (listIn list)) (ledgerAfter s (callsOf before)) .answer) .stopped ≡ true
@@ -56,20 +51,20 @@ module _ (s : Setup) (first : List ℕ) (b : Begins s first) (before : List CCal
   joined = map-append _ since stopped
 
   now : InStep s (recordIn (imageAfter first (since ++ stopped))) (ledgerAfter s (callsOf since ++ callsOf stopped))
-  now = rw joined at (in-step-at (since ++ stopped))
+  now = rw joined at (in-step-image s first b (since ++ stopped))
 
   pub shut-down-images : ShutDownFromC s first stopped since
   unfolding callsOf inNumbers ruleFromC stepOf lentTo
   shut-down-images =
       record {
-        after = shut-down-after s (b .ok) (callsOf before) (listIn list) gave-done (callsOf since) only _ now (recordIn (imageAfter first stopped)) (in-step-at stopped);
+        after = shut-down-after s (b .ok) (callsOf before) (listIn list) gave-done (callsOf since) only _ now (recordIn (imageAfter first stopped)) (in-step-image s first b stopped);
         tells =
             λ more eight.
             called (since ++ stopped) (record { call = finish; rest = more; out = eight }) ∙
             ap (λ (x : Next). told (x .answer) (ledgerImage s (x .ledger) ++ more) (x .lent) eight)
             (ap (λ (h : List Call). stepOf s finish (ledgerAfter s h)) joined ∙ finish-next s (b .ok) (callsOf before) (listIn list) gave-done (callsOf since) only _ now) ∙
             ap (λ (image : List ℕ). told (finishSays s (callsOf stopped) (callsOf since)) (image ++ more) [] eight)
-            (sym (image-is (since ++ stopped) ∙ ap (λ (h : List Call). ledgerImage s (ledgerAfter s h)) joined));
+            (sym (image-after s first b (since ++ stopped) ∙ ap (λ (h : List Call). ledgerImage s (ledgerAfter s h)) joined));
       }
 
 -- THE THEOREM: wherever opening from C returns 0, for every list of calls that ends in a stop that returned 0, and every list of reaped and
