@@ -279,7 +279,7 @@ static bool end(struct player *p)
 
 /* ---- from the options to the sentence ---- */
 
-/* Plans the ring by the endpoint's numbers, and opens it. */
+/* Plans the ring by the endpoint's numbers and the sound's frames, and opens it. */
 static bool open_ring(struct player *p)
 {
     const struct endpoint *e = &p->usbfs->endpoint;
@@ -290,7 +290,8 @@ static bool open_ring(struct player *p)
         p->interval_us = plan[USBFS_ISO_SCHEDULE_INTERVAL_US];
         p->slots = plan[USBFS_ISO_SCHEDULE_URBS];
         p->packet_bytes = plan[USBFS_ISO_SCHEDULE_PACKET_BYTES];
-        refusal = usbfs_iso_layout(p->slots, p->packets, p->packet_bytes, p->layout, sizeof p->layout);
+        refusal = usbfs_iso_layout(p->slots, p->packets, p->packet_bytes, p->sound->frame_bytes, p->layout,
+                                   sizeof p->layout);
     }
     if (refusal == 0) {
         p->block = aligned_alloc(p->layout[USBFS_ISO_LAYOUT_ALIGNMENT], p->layout[USBFS_ISO_LAYOUT_TOTAL]);
@@ -299,7 +300,7 @@ static bool open_ring(struct player *p)
             return fprintf(stderr, "player: no memory\n"), false;
         uint8_t silence = p->sound->sample_bytes == 1 ? 0x80 : 0;
         refusal = usbfs_iso_open(p->slots, p->packets, p->packet_bytes, e->address, USBFS_ISO_POLICY_CONTINUE, silence,
-                                 (uintptr_t)p->block, 0, BLOCK(p), IMAGE(p), OUT(p));
+                                 (uintptr_t)p->block, 0, p->sound->frame_bytes, BLOCK(p), IMAGE(p), OUT(p));
     }
     if (refusal != 0)
         return fprintf(stderr, "player: no ring: %s\n", text_of(refusal)), false;

@@ -49,7 +49,7 @@ extern "C" {
  * Refusals: what a function returns when that is not 0. A refusal leaves image and block as they were, but for these:
  * 10, 11, 12 and those of usbfs_iso_submitted_errno (13 to 17) return the slot in hand to the queue; 19 has counted the
  * underrun; 13 from usbfs_iso_reaped_address has returned and counted the slot. No function here gives 8, 25 or 27 to
- * 30: they are kept so that the numbers are the same in all languages.
+ * 30: they are kept so that the numbers are the same in all languages. 32 is no refusal.
  */
 enum usbfs_iso_refusal {
     USBFS_ISO_TOO_FEW_SLOTS = 1,           /* fewer than 2 slots */
@@ -82,7 +82,8 @@ enum usbfs_iso_refusal {
     USBFS_ISO_PACKET_SIZE_UNKNOWN = 28,    /* the builder was given no packet size */
     USBFS_ISO_PACKET_BYTES_TOO_LARGE = 29, /* packet bytes above the endpoint's packet size */
     USBFS_ISO_INVALID_ENDPOINT = 30,       /* the endpoint is not an OUT endpoint */
-    USBFS_ISO_NOT_AN_IMAGE = 31            /* image too short or not of a sound record; policy or tag that names none */
+    USBFS_ISO_NOT_AN_IMAGE = 31,           /* image too short or not of a sound record; policy or tag that names none */
+    USBFS_ISO_FRAME_SIZE = 33              /* no bytes in a frame, or more than in a packet */
 };
 
 /* What a call answered: the first of the eight numbers. */
@@ -137,7 +138,7 @@ enum usbfs_iso_layout_place {
     USBFS_ISO_LAYOUT_DATA_STRIDE = 2,      /* bytes from one payload to the next */
     USBFS_ISO_LAYOUT_TOTAL = 3,            /* bytes of the block */
     USBFS_ISO_LAYOUT_ALIGNMENT = 4,        /* of the block's address: 64 */
-    USBFS_ISO_LAYOUT_CAPACITY = 5,         /* bytes of sound in a slot */
+    USBFS_ISO_LAYOUT_CAPACITY = 5,         /* bytes of sound in a slot: in each packet as many whole frames as fit */
     USBFS_ISO_LAYOUT_NUMBERS = 6
 };
 
@@ -166,31 +167,37 @@ enum usbfs_iso_counter {
 /*
  * The image of a stream of n slots, little-endian, with no gaps:
  *   0         header, 4 bytes each: n; how many slots are in the queue; the offsets of the four parts below
- *   24        setup, 8 bytes each: usbfs_iso_open's eight numbers in their order; the hand's kind (0 Idle, 1 Held,
+ *   24        setup, 8 bytes each: usbfs_iso_open's nine numbers in their order; the hand's kind (0 Idle, 1 Held,
  *             2 Sending, 3 Silent), its slot, silent slots left; started; armed (1 or 0 each)
- *   128       states, a byte a slot: 0 Free, 1 Filling (in hand), 2 InFlight, 3 Discarding; the last two are "out"
- *   128 + n   queue of the free slots, front first: n places of 4 bytes, unused ones zero
- *   128 + 5n  the eight counters, 8 bytes each
+ *   136       states, a byte a slot: 0 Free, 1 Filling (in hand), 2 InFlight, 3 Discarding; the last two are "out"
+ *   136 + n   queue of the free slots, front first: n places of 4 bytes, unused ones zero
+ *   136 + 5n  the eight counters, 8 bytes each
  * The buffer may be longer than the image: its rest is neither read nor written.
  */
-#define USBFS_ISO_IMAGE_SIZE(n) (192 + 5 * (n))
-#define USBFS_ISO_COUNTER_AT(n, counter) (128 + 5 * (n) + 8 * (counter))
+#define USBFS_ISO_IMAGE_SIZE(n) (200 + 5 * (n))
+#define USBFS_ISO_COUNTER_AT(n, counter) (136 + 5 * (n) + 8 * (counter))
 
 /* The bytes of the image of a stream of so many slots; 0 where no stream has so many (below 2, above 256). */
 uint64_t usbfs_iso_image_size(uint64_t slots);
 
-/* Writes the six numbers of the block's layout, as many whole ones as fit. Refuses 1 to 4, and then writes none. */
-uint32_t usbfs_iso_layout(uint64_t slots, uint64_t packets_per_urb, uint64_t packet_bytes, void *out, size_t out_len);
+/*
+ * Writes the six numbers of the block's layout, as many whole ones as fit. frame_bytes is the size of a frame, a sample
+ * of every channel, which commit does not split over two packets; 1 where that is all one. Only the capacity goes by
+ * it. Refuses 1 to 4, then 33, and then writes none.
+ */
+uint32_t usbfs_iso_layout(uint64_t slots, uint64_t packets_per_urb, uint64_t packet_bytes, uint64_t frame_bytes,
+                          void *out, size_t out_len);
 
 /*
  * Opens a stream: clears the block and writes its headers, writes the image. Answers Done. The block must be as long
  * as the layout's total; base is its address, (uintptr_t)block. tag is 0; or 1 where the top 8 bits of addresses are a
- * tag, which comparisons then leave out. Refuses in this order, and then writes neither block nor image: 31 for a
- * policy above 2 or a tag above 1; 1; 2; 3; 5; 6; 7; 31 for a buffer shorter than usbfs_iso_image_size(slots).
+ * tag, which comparisons then leave out. frame_bytes is as for usbfs_iso_layout. Refuses in this order, and then writes
+ * neither block nor image: 31 for a policy above 2 or a tag above 1; 1; 2; 3; 5; 33; 6; 7; 31 for a buffer shorter than
+ * usbfs_iso_image_size(slots).
  */
 uint32_t usbfs_iso_open(uint64_t slots, uint64_t packets_per_urb, uint64_t packet_bytes, uint8_t endpoint,
-                        uint64_t policy, uint8_t silence_byte, uint64_t base, uint64_t tag, void *block,
-                        size_t block_len, void *image, size_t image_len, void *out, size_t out_len);
+                        uint64_t policy, uint8_t silence_byte, uint64_t base, uint64_t tag, uint64_t frame_bytes,
+                        void *block, size_t block_len, void *image, size_t image_len, void *out, size_t out_len);
 
 /*
  * The calls on an image. The hand is what the program has: Idle, nothing; Held, a slot to fill; Sending or Silent, a
@@ -203,8 +210,9 @@ uint32_t usbfs_iso_turn(void *image, size_t image_len, void *block, size_t block
 
 /*
  * Held. These write the packets' lengths into the slot's header, and answer Submit. commit fills packet after packet
- * until `bytes` are used up; commit_full is commit of the capacity; commit_packets takes a list with a length for each
- * packet, 8 bytes each, a ragged end not counting. Refuse 10; commit_packets instead 11, then 12.
+ * with as many whole frames as fit until `bytes` are used up, so that only the last packet used may end inside a frame;
+ * commit_full is commit of the capacity; commit_packets takes a list with a length for each packet, 8 bytes each, a
+ * ragged end not counting, and does not look at frames. Refuse 10; commit_packets instead 11, then 12.
  */
 uint32_t usbfs_iso_commit(void *image, size_t image_len, uint64_t bytes, void *block, size_t block_len, void *out,
                           size_t out_len);

@@ -148,7 +148,7 @@ struct answer opened(struct stage *s, const struct setup *v)
     expect_out(&s->out, expected.numbers, 8);
     begin(s, CALLS, v->slots);
     uint32_t returned = usbfs_iso_open(v->slots, v->packets_per_urb, v->packet_bytes, v->endpoint, v->policy,
-                                       v->silence_byte, v->base, v->tag, BLOCK, IMAGE, ANSWER);
+                                       v->silence_byte, v->base, v->tag, v->frame_bytes, BLOCK, IMAGE, ANSWER);
     compare(s, returned, &expected);
     return expected;
 }

@@ -23,7 +23,7 @@ struct stage {
 
 /* What was done so far, for the summary. */
 struct figures {
-    uint64_t calls, refusals[NOT_AN_IMAGE + 1], kinds[YES + 1];
+    uint64_t calls, refusals[LAST_REFUSAL + 1], kinds[YES + 1];
 };
 extern struct figures figures;
 
@@ -68,6 +68,7 @@ void expect(struct stage *stage, enum call call, uint64_t number, uint32_t refus
 /* The parts of the test. */
 void edges_of_two_slots(void);
 void edges_of_r(void);
+void edges_of_frames(void);
 void traps(void);
 void every_refusal(void);
 void plain_functions(void);

@@ -4,7 +4,7 @@
 #include <string.h>
 
 /* R with FillSilence. */
-static const struct setup R = {4, 8, 100, 1, FILL_SILENCE, 9, 65536, 0};
+static const struct setup R = {4, 8, 100, 1, FILL_SILENCE, 9, 65536, 0, 1};
 
 /* How a stream is brought to each pose, a letter a step (`step`). */
 static const char *const POSES[] = {
@@ -29,13 +29,14 @@ static void step(struct stage *s, char letter)
     }
 }
 
-/* A stream opened, started and brought to a pose; every other one with a tag, endpoint 0 and silence byte 0. */
+/* A stream opened, started and brought to a pose; every other one with a tag, frames of 6, endpoint and silence 0. */
 static struct stage pose(int which)
 {
     struct setup setup = R;
     if (which % 2 == 1) {
         setup.tag = 1;
         setup.endpoint = setup.silence_byte = 0;
+        setup.frame_bytes = 6;
     }
     struct stage s = new_stage(&setup, 0);
     in_part("pose %d", which);

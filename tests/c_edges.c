@@ -2,8 +2,8 @@
 #include "c_check.h"
 #include "c_bytes.h"
 
-/* R of the paper: 4 slots of 8 packets of 100 bytes, at base 65,536. */
-static const struct setup R = {4, 8, 100, 1, CONTINUE, 0, 65536, 0};
+/* R of the paper: 4 slots of 8 packets of 100 bytes, at base 65,536, with frames of 1. */
+static const struct setup R = {4, 8, 100, 1, CONTINUE, 0, 65536, 0, 1};
 
 static uint64_t counter(const struct stage *stage, enum counter which)
 {
@@ -32,7 +32,7 @@ static void send_full(struct stage *stage, uint64_t slot)
 /* Two slots, FillSilence. */
 void edges_of_two_slots(void)
 {
-    struct setup setup = {2, 1, 192, 1, FILL_SILENCE, 0x55, 64, 0};
+    struct setup setup = {2, 1, 192, 1, FILL_SILENCE, 0x55, 64, 0, 1};
     struct stage s = new_stage(&setup, 0);
     in_part("edges of two slots");
     expect_opened(&s, &setup, 0);
@@ -100,7 +100,7 @@ void edges_of_r(void)
     struct stage s = new_stage(&R, 0);
     in_part("edges of R");
     same_number("block of R", s.block.length, 3968);
-    same_number("image of R", s.image.length, 212);
+    same_number("image of R", s.image.length, 220);
     commits_of_r();
     expect_opened(&s, &R, 0);
     same_number("address of slot 3's payload", number_at(header(&s, 3) + 16, 8), 65536 + 640 + 3 * 832);

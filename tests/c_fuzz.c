@@ -95,12 +95,13 @@ static void try_openings(struct random *r, struct stage *s, const struct setup *
     for (uint64_t k = below(r, 3); k > 0; k--) {
         struct setup tried = *setup;
         uint64_t any = one_in(r, 2) ? below(r, 3) : one_in(r, 2) ? below(r, 300) : draw(r);
-        switch (below(r, 6)) {
+        switch (below(r, 7)) {
         case 0: tried.slots = any; break;
         case 1: tried.packets_per_urb = any; break;
         case 2: tried.packet_bytes = any; break;
         case 3: tried.policy = below(r, 5); break;
         case 4: tried.tag = below(r, 3); break;
+        case 5: tried.frame_bytes = one_in(r, 2) ? tried.packet_bytes + below(r, 2) : any; break;
         default: tried.base = any; break;
         }
         opened(s, &tried);
@@ -134,7 +135,8 @@ static void one_stream(struct random *r, uint64_t calls)
 /* Every refusal and every kind that opening and the calls give has come up since. */
 static void all_came_up(const struct figures *before)
 {
-    static const uint32_t refusals[] = {1, 2, 3, 5, 6, 7, 9, 10, 11, 12, 13, 14, 15, 16, 17, 18, 19, 20, NOT_AN_IMAGE};
+    static const uint32_t refusals[] = {1,  2,  3,  5,  6,  7,  9,  10, 11,           12,
+                                        13, 14, 15, 16, 17, 18, 19, 20, NOT_AN_IMAGE, FRAME_SIZE};
     for (size_t k = 0; k < sizeof refusals / sizeof refusals[0]; k++)
         if (figures.refusals[refusals[k]] == before->refusals[refusals[k]])
             mismatch("refusal %u never came up", (unsigned)refusals[k]);

@@ -6,7 +6,7 @@
 #include "c_bytes.h"
 #include <string.h>
 
-enum { HEADER_NUMBERS = 6, SETUP_NUMBERS = 13 };
+enum { HEADER_NUMBERS = 6, SETUP_NUMBERS = 14 };
 
 size_t queue_at(uint64_t n)
 {
@@ -29,8 +29,8 @@ void write_image(const struct ledger *ledger, uint8_t *image)
     uint64_t n = s->slots;
     uint64_t header[HEADER_NUMBERS] = {n, ledger->queued, SETUP_AT, STATES_AT, queue_at(n), counters_at(n)};
     uint64_t setup[SETUP_NUMBERS] = {n, s->packets_per_urb, s->packet_bytes, s->endpoint, s->policy, s->silence_byte,
-                                     s->base, s->tag, ledger->hand, ledger->slot, ledger->left, ledger->started,
-                                     ledger->armed};
+                                     s->base, s->tag, s->frame_bytes, ledger->hand, ledger->slot, ledger->left,
+                                     ledger->started, ledger->armed};
     for (int k = 0; k < HEADER_NUMBERS; k++)
         put_number(image + 4 * k, 4, header[k]);
     for (int k = 0; k < SETUP_NUMBERS; k++)
@@ -46,15 +46,15 @@ void write_image(const struct ledger *ledger, uint8_t *image)
 /* Opening's values, of which opening would refuse none; and the header that goes with them. */
 static bool read_setup(const uint8_t *bytes, size_t length, struct ledger *ledger)
 {
-    uint64_t v[8], offsets[4], n;
+    uint64_t v[9], offsets[4], n;
     if (length < image_size(2))
         return false;
-    for (int k = 0; k < 8; k++)
+    for (int k = 0; k < 9; k++)
         v[k] = number_at(bytes + SETUP_AT + 8 * k, 8);
     n = v[0];
     if (v[3] > 255 || v[4] > ERROR || v[5] > 255 || v[7] > 1)
         return false;
-    ledger->setup = (struct setup){n, v[1], v[2], (uint8_t)v[3], v[4], (uint8_t)v[5], v[6], v[7]};
+    ledger->setup = (struct setup){n, v[1], v[2], (uint8_t)v[3], v[4], (uint8_t)v[5], v[6], v[7], v[8]};
     if (opening_refusal(&ledger->setup, layout_of(&ledger->setup).total) != 0 || length < image_size(n))
         return false;
     for (int k = 0; k < 4; k++)

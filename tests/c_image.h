@@ -5,7 +5,7 @@
 #include "c_model.h"
 
 /* Where the image's parts start, for n slots, and its size. */
-enum { SETUP_AT = 24, HAND_AT = 88, STATES_AT = 128 };
+enum { SETUP_AT = 24, FRAME_AT = 88, HAND_AT = 96, STATES_AT = 136 };
 size_t queue_at(uint64_t n);
 size_t counters_at(uint64_t n);
 size_t image_size(uint64_t n);

@@ -14,6 +14,7 @@ int main(int count, char **arguments)
     struct damage damage = {0, 0, 0};
     edges_of_two_slots();
     edges_of_r();
+    edges_of_frames();
     traps();
     every_refusal();
     plain_functions();

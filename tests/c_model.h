@@ -9,7 +9,8 @@
 #include <stddef.h>
 #include <stdint.h>
 
-enum { MOST_SLOTS = 256, MOST_PACKETS = 128, MOST_PACKET_BYTES = 49152, NOT_AN_IMAGE = 31 };
+enum { MOST_SLOTS = 256, MOST_PACKETS = 128, MOST_PACKET_BYTES = 49152 };
+enum { NOT_AN_IMAGE = 31, FRAME_SIZE = 33, LAST_REFUSAL = FRAME_SIZE };
 enum hand { IDLE, HELD, SENDING, SILENT };
 enum state { FREE, FILLING, IN_FLIGHT, DISCARDING };
 enum policy { CONTINUE, FILL_SILENCE, ERROR };
@@ -44,7 +45,7 @@ struct setup {
     uint8_t endpoint;
     uint64_t policy;
     uint8_t silence_byte;
-    uint64_t base, tag;
+    uint64_t base, tag, frame_bytes;
 };
 
 struct layout {
@@ -72,10 +73,13 @@ struct answer answered(enum kind kind, uint64_t value);
 struct answer refused(uint32_t number, uint64_t value);
 
 /* The layout, or the number that refuses it. */
-uint32_t model_layout(uint64_t n, uint64_t p, uint64_t b, struct layout *layout);
+uint32_t model_layout(uint64_t n, uint64_t p, uint64_t b, uint64_t f, struct layout *layout);
 struct layout layout_of(const struct setup *setup);
 
-/* The first of opening's own refusals (1, 2, 3, 5, 6, 7) that these values and a block of this length meet, or 0. */
+/* What commit puts into a packet at most: the largest multiple of f not above b. */
+uint64_t packet_fill(uint64_t b, uint64_t f);
+
+/* The first of opening's own refusals (1, 2, 3, 5, 33, 6, 7) that these values and a block so long meet, or 0. */
 uint32_t opening_refusal(const struct setup *setup, uint64_t block_length);
 
 /* Opening: writes ledger and block unless it refuses. */

@@ -12,7 +12,12 @@ static wide raised(wide value, unsigned to)
     return (value + to - 1) / to * to;
 }
 
-uint32_t model_layout(uint64_t n, uint64_t p, uint64_t b, struct layout *layout)
+uint64_t packet_fill(uint64_t b, uint64_t f)
+{
+    return b - b % f;
+}
+
+uint32_t model_layout(uint64_t n, uint64_t p, uint64_t b, uint64_t f, struct layout *layout)
 {
     if (n < 2)
         return 1;
@@ -25,14 +30,16 @@ uint32_t model_layout(uint64_t n, uint64_t p, uint64_t b, struct layout *layout)
     wide data_stride = raised((wide)p * b, 64);
     if (base > LARGEST || data_stride > LARGEST || n * data_stride > LARGEST || base + n * data_stride > LARGEST)
         return 4;
-    *layout = (struct layout){stride, base, data_stride, base + n * data_stride, 64, p * b};
+    if (f == 0 || f > b)
+        return FRAME_SIZE;
+    *layout = (struct layout){stride, base, data_stride, base + n * data_stride, 64, p * packet_fill(b, f)};
     return 0;
 }
 
 struct layout layout_of(const struct setup *setup)
 {
     struct layout layout = {0, 0, 0, 0, 0, 0};
-    model_layout(setup->slots, setup->packets_per_urb, setup->packet_bytes, &layout);
+    model_layout(setup->slots, setup->packets_per_urb, setup->packet_bytes, setup->frame_bytes, &layout);
     return layout;
 }
 
@@ -45,11 +52,14 @@ static bool is_bad_base(const struct setup *setup, uint64_t total)
 uint32_t opening_refusal(const struct setup *setup, uint64_t block_length)
 {
     struct layout layout;
-    uint32_t number = model_layout(setup->slots, setup->packets_per_urb, setup->packet_bytes, &layout);
-    if (number != 0 && number != 4)
+    uint32_t number =
+        model_layout(setup->slots, setup->packets_per_urb, setup->packet_bytes, setup->frame_bytes, &layout);
+    if (number != 0 && number <= 3)
         return number;
     if (setup->slots > MOST_SLOTS || setup->packet_bytes > MOST_PACKET_BYTES)
         return 5;
+    if (setup->frame_bytes == 0 || setup->frame_bytes > setup->packet_bytes)
+        return FRAME_SIZE;
     if (block_length != layout.total)
         return 6;
     return is_bad_base(setup, layout.total) ? 7 : 0;
@@ -78,7 +88,7 @@ struct answer model_open(const struct setup *setup, struct bytes block, size_t i
     uint32_t number = opening_refusal(setup, block.length);
     if (number != 0)
         return refused(number, 0);
-    if (image_length < 192 + 5 * setup->slots)
+    if (image_length < 200 + 5 * setup->slots)
         return refused(NOT_AN_IMAGE, 0);
     memset(ledger, 0, sizeof *ledger);
     ledger->setup = *setup;

@@ -122,22 +122,55 @@ static void schedules(void)
         end_lending(&outs[length]);
 }
 
-static void layout(uint64_t n, uint64_t p, uint64_t b, struct lent *out)
+static uint32_t layout(uint64_t n, uint64_t p, uint64_t b, uint64_t f, struct lent *out)
 {
     struct layout l = {0, 0, 0, 0, 0, 0};
-    uint32_t refusal = model_layout(n, p, b, &l);
+    uint32_t refusal = model_layout(n, p, b, f, &l);
     uint64_t numbers[6] = {l.header_stride, l.data_base, l.data_stride, l.total, l.alignment, l.capacity};
     figures.calls++;
     expect_out(out, numbers, refusal ? 0 : 6);
-    same_numbers(out, usbfs_iso_layout(n, p, b, out->bytes, out->length), refusal);
+    same_numbers(out, usbfs_iso_layout(n, p, b, f, out->bytes, out->length), refusal);
+    return refusal;
 }
 
-/* A layout by hand. */
-static void expect_layout(uint64_t n, uint64_t p, uint64_t b, const uint64_t numbers[6], struct lent *out)
+/* A layout by hand: n, p, b, f, and its numbers. */
+static void expect_layout(const uint64_t of[4], const uint64_t numbers[6], struct lent *out)
 {
-    layout(n, p, b, out);
+    layout(of[0], of[1], of[2], of[3], out);
     for (unsigned k = 0; k < 6; k++)
         same_number("by hand, layout", number_at(out->bytes + 8 * k, 8), numbers[k]);
+}
+
+/* The paper's layouts, and with frames: of these only the capacity is another. */
+static void layouts_by_hand(struct lent *out)
+{
+    uint64_t most = ((uint64_t)1 << 63) - 128; /* of 2 slots and 1 packet: the total is 2^64 - 64 */
+    static const uint64_t frames[][2] = {{6, 768}, {7, 784}, {50, 800}, {51, 408}, {99, 792}, {100, 800}};
+    expect_layout((uint64_t[]){2, 1, 192, 1}, (uint64_t[]){72, 192, 192, 576, 64, 192}, out);
+    expect_layout((uint64_t[]){4, 8, 100, 1}, (uint64_t[]){152, 640, 832, 3968, 64, 800}, out);
+    expect_layout((uint64_t[]){2, 128, 1, 1}, (uint64_t[]){1592, 3200, 128, 3456, 64, 128}, out);
+    expect_layout((uint64_t[]){2, 1, most, 1}, (uint64_t[]){72, 192, most, 0 - (uint64_t)64, 64, most}, out);
+    expect_layout((uint64_t[]){2, 1, most, most - 1}, (uint64_t[]){72, 192, most, 0 - (uint64_t)64, 64, most - 1}, out);
+    for (unsigned k = 0; k < sizeof frames / sizeof frames[0]; k++)
+        expect_layout((uint64_t[]){4, 8, 100, frames[k][0]}, (uint64_t[]){152, 640, 832, 3968, 64, frames[k][1]}, out);
+}
+
+/* Each with all that is tested later wrong too. */
+static void refused_layouts(struct lent *out)
+{
+    static const uint64_t cases[][5] = {
+        {1, 0, 0, 0, 1},
+        {2, 129, 0, 0, 2},
+        {2, 129, UINT64_MAX, 0, 3},
+        {2, 128, UINT64_MAX, 0, 4},
+        {2, 1, ((uint64_t)1 << 63) - 127, 1, 4},
+        {4, 8, 100, 0, 33},
+        {4, 8, 100, 101, 33},
+        {4, 8, 100, ((uint64_t)1 << 32) + 6, 33},
+        {4, 8, 100, UINT64_MAX, 33},
+    };
+    for (unsigned k = 0; k < sizeof cases / sizeof cases[0]; k++)
+        same_number("by hand, refusal", layout(cases[k][0], cases[k][1], cases[k][2], cases[k][3], out), cases[k][4]);
 }
 
 static void layouts(void)
@@ -145,18 +178,17 @@ static void layouts(void)
     static const uint64_t values[] = {0, 1, 2, 3, 4, 8, 100, 127, 128, 129, 192, 256, 49152, 49153, (uint64_t)1 << 32,
                                       (uint64_t)1 << 57, (uint64_t)1 << 58, ((uint64_t)1 << 58) + 1, (uint64_t)1 << 63,
                                       UINT64_MAX - 63, UINT64_MAX - 62, UINT64_MAX / 128, UINT64_MAX / 136, UINT64_MAX};
-    enum { VALUES = sizeof values / sizeof values[0] };
+    enum { VALUES = sizeof values / sizeof values[0], FRAMES = 8 };
     struct lent out = lend(48, 0), longer = lend(72, 0), shorter = lend(17, 0), none = lend_nothing();
     struct lent *const outs[4] = {&out, &longer, &shorter, &none};
     in_part("layouts");
-    expect_layout(2, 1, 192, (uint64_t[]){72, 192, 192, 576, 64, 192}, &out);
-    expect_layout(4, 8, 100, (uint64_t[]){152, 640, 832, 3968, 64, 800}, &out);
-    expect_layout(2, 128, 1, (uint64_t[]){1592, 3200, 128, 3456, 64, 128}, &out);
-    uint64_t most = ((uint64_t)1 << 63) - 128; /* of 2 slots and 1 packet: the total is 2^64 - 64 */
-    expect_layout(2, 1, most, (uint64_t[]){72, 192, most, 0 - (uint64_t)64, 64, most}, &out);
-    layout(2, 1, most + 1, &out);
-    for (unsigned k = 0; k < VALUES * VALUES * VALUES; k++)
-        layout(values[k % VALUES], values[k / VALUES % VALUES], values[k / VALUES / VALUES], outs[k % 4]);
+    layouts_by_hand(&out);
+    refused_layouts(&out);
+    for (unsigned k = 0; k < VALUES * VALUES * VALUES * FRAMES; k++) {
+        uint64_t b = values[k / VALUES / VALUES % VALUES];
+        const uint64_t frames[FRAMES] = {0, 1, 2, 6, b - 1, b, b + 1, UINT64_MAX};
+        layout(values[k % VALUES], values[k / VALUES % VALUES], b, frames[k / (VALUES * VALUES * VALUES)], outs[k % 4]);
+    }
     for (unsigned k = 0; k < 4; k++)
         end_lending(outs[k]);
 }
@@ -165,7 +197,7 @@ static void image_sizes(void)
 {
     in_part("image sizes");
     for (uint64_t n = 0; n < 600; n++)
-        same_number("image size", usbfs_iso_image_size(n), n < 2 || n > 256 ? 0 : 192 + 5 * n);
+        same_number("image size", usbfs_iso_image_size(n), n < 2 || n > 256 ? 0 : 200 + 5 * n);
     same_number("image size of 2^32 + 4 slots", usbfs_iso_image_size(((uint64_t)1 << 32) + 4), 0);
     same_number("image size of 2^64 - 1 slots", usbfs_iso_image_size(UINT64_MAX), 0);
     figures.calls += 602;
@@ -204,7 +236,7 @@ static bool is_printable(const char *text)
 /* A text of a number that is no refusal is empty. */
 static void no_strings(void)
 {
-    static const uint32_t others[] = {0, 32, 33, 256, 257, 65537, UINT32_MAX};
+    static const uint32_t others[] = {0, 32, 34, 256, 257, 289, 65537, UINT32_MAX};
     char whole[201];
     for (unsigned k = 0; k < sizeof others / sizeof others[0]; k++) {
         strings(usbfs_iso_refusal_name, others[k], whole);
@@ -217,16 +249,18 @@ static void no_strings(void)
 /* Names are those of crates/error; texts are printable words, and each refusal has its own. */
 static void refusal_strings(void)
 {
-    static const char *const names[NOT_AN_IMAGE + 1] = {
+    static const char *const names[LAST_REFUSAL + 1] = {
         "", "TooFewSlots", "ZeroSize", "TooManyPackets", "LayoutOverflow", "TooLarge", "BlockLength", "BaseAddress",
         "Unsound", "WrongHand", "CommitTooLong", "PacketCount", "PacketTooLong", "Disconnected", "UsbfsMemory",
         "PermissionDenied", "Unsupported", "Io", "StrayNotice", "Underrun", "ListTooShort", "UnsupportedSpeed",
         "InvalidInterval", "ZeroPacketBytes", "ZeroPackets", "ProductOverflow", "NotIsochronous", "IntervalUnknown",
-        "PacketSizeUnknown", "PacketBytesTooLarge", "InvalidEndpoint", "NotAnImage",
+        "PacketSizeUnknown", "PacketBytesTooLarge", "InvalidEndpoint", "NotAnImage", NULL, "FrameSize",
     };
-    char name[201], texts[NOT_AN_IMAGE + 1][201];
+    char name[201], texts[LAST_REFUSAL + 1][201] = {""};
     in_part("names and texts of refusals");
-    for (uint32_t number = 1; number <= NOT_AN_IMAGE; number++) {
+    for (uint32_t number = 1; number <= LAST_REFUSAL; number++) {
+        if (names[number] == NULL)
+            continue;
         strings(usbfs_iso_refusal_name, number, name);
         if (strcmp(name, names[number]) != 0)
             mismatch("name of %u: expected %s, got %s", (unsigned)number, names[number], name);

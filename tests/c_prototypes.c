@@ -9,8 +9,8 @@
 #define LENT void *, size_t
 #define READ const void *, size_t
 
-uint32_t (*const open_type)(uint64_t, uint64_t, uint64_t, uint8_t, uint64_t, uint8_t, uint64_t, uint64_t, LENT, LENT,
-                            LENT) = usbfs_iso_open;
+uint32_t (*const open_type)(uint64_t, uint64_t, uint64_t, uint8_t, uint64_t, uint8_t, uint64_t, uint64_t, uint64_t,
+                            LENT, LENT, LENT) = usbfs_iso_open;
 
 uint32_t (*const turn_type)(LENT, LENT, LENT) = usbfs_iso_turn;
 uint32_t (*const commit_type)(LENT, uint64_t, LENT, LENT) = usbfs_iso_commit;
@@ -25,7 +25,7 @@ uint32_t (*const start_type)(LENT, LENT) = usbfs_iso_start;
 uint32_t (*const stop_type)(LENT, LENT, LENT) = usbfs_iso_stop;
 uint32_t (*const finish_type)(LENT, LENT) = usbfs_iso_finish;
 
-uint32_t (*const layout_type)(uint64_t, uint64_t, uint64_t, LENT) = usbfs_iso_layout;
+uint32_t (*const layout_type)(uint64_t, uint64_t, uint64_t, uint64_t, LENT) = usbfs_iso_layout;
 uint64_t (*const image_size_type)(uint64_t) = usbfs_iso_image_size;
 uint32_t (*const derive_type)(int32_t, uint8_t, uint64_t, uint64_t, uint32_t, uint64_t, LENT) = usbfs_iso_derive;
 uint32_t (*const plan_type)(int32_t, uint8_t, uint16_t, uint8_t, uint64_t, uint32_t, uint64_t, LENT) = usbfs_iso_plan;
@@ -54,8 +54,10 @@ SAME(USBFS_ISO_COUNTER_PACKET_ERRORS, PACKET_ERRORS);
 SAME(USBFS_ISO_COUNTER_URB_ERRORS, URB_ERRORS);
 SAME(USBFS_ISO_COUNTER_UNDERRUNS, UNDERRUNS);
 SAME(USBFS_ISO_COUNTERS, COUNTERS);
-SAME(USBFS_ISO_IMAGE_SIZE(4), 212);
-SAME(USBFS_ISO_COUNTER_AT(4, UNDERRUNS), 204);
+SAME(USBFS_ISO_IMAGE_SIZE(4), 220);
+SAME(USBFS_ISO_COUNTER_AT(4, UNDERRUNS), 212);
+SAME(USBFS_ISO_NOT_AN_IMAGE, NOT_AN_IMAGE);
+SAME(USBFS_ISO_FRAME_SIZE, FRAME_SIZE);
 SAME(USBFS_ISO_SPEED_LOW, 1);
 SAME(USBFS_ISO_SPEED_FULL, 2);
 SAME(USBFS_ISO_SPEED_HIGH, 3);

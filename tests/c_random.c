@@ -35,12 +35,25 @@ static uint64_t draw_base(struct random *r, uint64_t total, bool is_tagged)
     return is_tagged ? below(r, 256) * limit + base : base;
 }
 
+/* A frame size that opening accepts: mostly 1; or small, the whole packet, just above its half, or any. */
+static uint64_t draw_frame(struct random *r, uint64_t packet_bytes)
+{
+    switch (below(r, 8)) {
+    case 0: return 1 + below(r, packet_bytes < 8 ? packet_bytes : 8);
+    case 1: return packet_bytes;
+    case 2: return 1 + packet_bytes / 2;
+    case 3: return 1 + below(r, packet_bytes);
+    default: return 1;
+    }
+}
+
 struct setup draw_setup(struct random *r)
 {
     static const uint64_t slots[] = {2, 2, 3, 3, 4, 4, 5, 7, 8, 16, 63, 64, 255, 256};
     static const uint64_t packets[] = {1, 1, 2, 3, 8, 127, 128};
     static const uint64_t sizes[] = {1, 2, 63, 64, 65, 100, 192, 1023, 1024, 3072, 49152};
     struct setup s;
+    s.frame_bytes = 1;
     do {
         s.slots = slots[below(r, 14)];
         s.packets_per_urb = packets[below(r, 7)];
@@ -51,6 +64,7 @@ struct setup draw_setup(struct random *r)
     s.silence_byte = (uint8_t)draw(r);
     s.tag = one_in(r, 3);
     s.base = draw_base(r, layout_of(&s).total, s.tag);
+    s.frame_bytes = draw_frame(r, s.packet_bytes);
     return s;
 }
 

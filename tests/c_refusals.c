@@ -1,8 +1,8 @@
 /* Every refusal that opening and the calls give to C, by hand, with the order in which they come. */
 #include "c_check.h"
 
-static const struct setup R = {4, 8, 100, 1, CONTINUE, 0, 65536, 0};
-static const uint64_t R_TOTAL = 3968, R_IMAGE = 212;
+static const struct setup R = {4, 8, 100, 1, CONTINUE, 0, 65536, 0, 1};
+static const uint64_t R_TOTAL = 3968, R_IMAGE = 220;
 
 /* Opening with these values, a block and an image buffer of these lengths. */
 static void opening(struct setup setup, uint64_t block_length, uint64_t image_length, uint32_t refusal)
@@ -23,17 +23,20 @@ static void opening(struct setup setup, uint64_t block_length, uint64_t image_le
 static void opening_in_order(void)
 {
     in_part("opening's refusals");
-    opening((struct setup){0, 0, 0, 1, 3, 0, 1, 0}, 1, 0, 31);
-    opening((struct setup){0, 0, 0, 1, 0, 0, 1, 2}, 1, 0, 31);
-    opening((struct setup){0, 0, 0, 1, UINT64_MAX, 0, 1, UINT64_MAX}, 1, 0, 31);
-    opening((struct setup){0, 0, 0, 1, 2, 0, 1, 1}, 1, 0, 1);
-    opening((struct setup){1, 0, 0, 1, 0, 0, 1, 0}, 1, 0, 1);
-    opening((struct setup){2, 0, 49153, 1, 0, 0, 1, 0}, 1, 0, 2);
-    opening((struct setup){257, 129, 0, 1, 0, 0, 1, 0}, 1, 0, 2);
-    opening((struct setup){257, 129, 49153, 1, 0, 0, 1, 0}, 1, 0, 3);
-    opening((struct setup){257, 128, 1, 1, 0, 0, 1, 0}, 1, 0, 5);
-    opening((struct setup){2, 128, 49153, 1, 0, 0, 1, 0}, 1, 0, 5);
-    opening((struct setup){UINT64_MAX, 128, UINT64_MAX, 1, 0, 0, 1, 0}, 1, 0, 5);
+    opening((struct setup){0, 0, 0, 1, 3, 0, 1, 0, 0}, 1, 0, 31);
+    opening((struct setup){0, 0, 0, 1, 0, 0, 1, 2, 0}, 1, 0, 31);
+    opening((struct setup){0, 0, 0, 1, UINT64_MAX, 0, 1, UINT64_MAX, 0}, 1, 0, 31);
+    opening((struct setup){0, 0, 0, 1, 2, 0, 1, 1, 0}, 1, 0, 1);
+    opening((struct setup){1, 0, 0, 1, 0, 0, 1, 0, 0}, 1, 0, 1);
+    opening((struct setup){2, 0, 49153, 1, 0, 0, 1, 0, 0}, 1, 0, 2);
+    opening((struct setup){257, 129, 0, 1, 0, 0, 1, 0, 0}, 1, 0, 2);
+    opening((struct setup){257, 129, 49153, 1, 0, 0, 1, 0, 0}, 1, 0, 3);
+    opening((struct setup){257, 128, 1, 1, 0, 0, 1, 0, 0}, 1, 0, 5);
+    opening((struct setup){2, 128, 49153, 1, 0, 0, 1, 0, 49154}, 1, 0, 5);
+    opening((struct setup){UINT64_MAX, 128, UINT64_MAX, 1, 0, 0, 1, 0, 0}, 1, 0, 5);
+    opening((struct setup){4, 8, 100, 1, 0, 0, 1, 0, 0}, 1, 0, 33);
+    opening((struct setup){4, 8, 100, 1, 0, 0, 1, 0, 101}, 1, 0, 33);
+    opening((struct setup){256, 128, 49152, 1, 0, 0, 1, 0, 49153}, 1, 0, 33);
     R_WITH(base, 1, R_TOTAL - 1, 0, 6);
     R_WITH(base, 1, R_TOTAL + 1, 0, 6);
     R_WITH(base, 1, 0, 0, 6);
@@ -52,10 +55,10 @@ static void opening_in_order(void)
 static void tagged_openings(void)
 {
     uint64_t limit = (uint64_t)1 << 56;
-    struct setup tagged = {2, 1, 192, 1, CONTINUE, 0, 0xab * limit + limit - 576, 1};
+    struct setup tagged = {2, 1, 192, 1, CONTINUE, 0, 0xab * limit + limit - 576, 1, 1};
     struct stage s = new_stage(&tagged, 0);
     in_part("a tagged base");
-    opening(tagged, 576, 202, 0);
+    opening(tagged, 576, 210, 0);
     expect_opened(&s, &tagged, 0);
     expect(&s, TURN, 0, 0, SLOT, 0);
     expect(&s, COMMIT_FULL, 0, 0, SUBMIT, 0);
@@ -64,9 +67,9 @@ static void tagged_openings(void)
     expect(&s, REAPED_ADDRESS, 0xcd * limit + limit - 576, 0, COMPLETION, 0);
     end_stage(&s);
     tagged.base += 64;
-    opening(tagged, 576, 202, 7);
+    opening(tagged, 576, 210, 7);
     tagged.tag = 0;
-    opening(tagged, 576, 202, 0);
+    opening(tagged, 576, 210, 0);
 }
 
 /* R, opened and brought to this hand, FillSilence; slot 0 is out and back where the hand is Silent. */

@@ -1,7 +1,7 @@
 /* Odd slices: out of every length, empty ones, ragged and overlong lists. */
 #include "c_check.h"
 
-static const struct setup R = {4, 8, 100, 1, CONTINUE, 0, 65536, 0};
+static const struct setup R = {4, 8, 100, 1, CONTINUE, 0, 65536, 0, 1};
 
 /* R with two slots InFlight, one Discarding, and one in the queue or in hand. */
 static struct stage with_hand(enum hand hand)
@@ -65,7 +65,7 @@ static void ragged_stops(void)
 static void long_stops(void)
 {
     static const size_t lengths[] = {255 * 8 + 7, 256 * 8, 256 * 8 + 3, 257 * 8, 1000 * 8 + 5};
-    struct setup setup = {256, 1, 1, 1, CONTINUE, 0, 64, 0};
+    struct setup setup = {256, 1, 1, 1, CONTINUE, 0, 64, 0, 1};
     for (unsigned k = 0; k < 5; k++) {
         in_part("stop of 256 slots, a list of %zu bytes", lengths[k]);
         struct stage s = new_stage(&setup, 0);
@@ -87,7 +87,7 @@ static void long_stops(void)
 /* commit_packets on a ring of so many packets with so many lengths and a ragged end. */
 static void lengths(uint64_t packets, uint64_t count, size_t ragged)
 {
-    struct setup setup = {2, packets, 5, 1, CONTINUE, 0, 64, 0};
+    struct setup setup = {2, packets, 5, 1, CONTINUE, 0, 64, 0, 2};
     struct stage s = new_stage(&setup, 0);
     in_part("%llu lengths for %llu packets", (unsigned long long)count, (unsigned long long)packets);
     expect_opened(&s, &setup, 0);

@@ -80,9 +80,10 @@ void write_lengths(const struct ledger *ledger, uint64_t slot, const uint64_t *l
 
 void write_spread(const struct ledger *ledger, uint64_t slot, uint64_t bytes, uint8_t *block)
 {
-    uint64_t lengths[MOST_PACKETS], rest = bytes, b = ledger->setup.packet_bytes;
+    uint64_t lengths[MOST_PACKETS], rest = bytes;
+    uint64_t fill = packet_fill(ledger->setup.packet_bytes, ledger->setup.frame_bytes);
     for (uint64_t k = 0; k < ledger->setup.packets_per_urb; k++) {
-        lengths[k] = rest < b ? rest : b;
+        lengths[k] = rest < fill ? rest : fill;
         rest -= lengths[k];
     }
     write_lengths(ledger, slot, lengths, block);

@@ -23,7 +23,7 @@ struct answer take_silent(struct ledger *ledger, uint64_t left, uint8_t *block);
 
 uint8_t *header_in(const struct ledger *ledger, uint64_t slot, uint8_t *block);
 
-/* All that a commit of these lengths writes; and of so many bytes, each packet full before the next. */
+/* All that a commit of these lengths writes; and of so many bytes, each packet with all its frames before the next. */
 void write_lengths(const struct ledger *ledger, uint64_t slot, const uint64_t *lengths, uint8_t *block);
 void write_spread(const struct ledger *ledger, uint64_t slot, uint64_t bytes, uint8_t *block);
 

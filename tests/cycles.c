@@ -18,7 +18,7 @@ int main(int argc, char **argv)
         return 2;
     slots = strtoull(argv[1], NULL, 10);
     count = strtoull(argv[2], NULL, 10);
-    if (slots > 256 || usbfs_iso_layout(slots, PACKETS, BYTES, layout, sizeof layout) != 0)
+    if (slots > 256 || usbfs_iso_layout(slots, PACKETS, BYTES, 1, layout, sizeof layout) != 0)
         return 2;
     total = layout[USBFS_ISO_LAYOUT_TOTAL];
     block = aligned_alloc(layout[USBFS_ISO_LAYOUT_ALIGNMENT], total);

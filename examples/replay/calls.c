@@ -28,8 +28,8 @@ void open_stream(struct run *run, const struct opening *opening)
 {
     run->refusal = usbfs_iso_open(opening->slots, opening->packets_per_urb, opening->packet_bytes,
                                   (uint8_t)opening->endpoint, opening->policy, (uint8_t)opening->silence_byte,
-                                  opening->base, opening->tag, run->block, run->block_length, run->image,
-                                  run->image_length, run->out, sizeof run->out);
+                                  opening->base, opening->tag, opening->frame_bytes, run->block, run->block_length,
+                                  run->image, run->image_length, run->out, sizeof run->out);
 }
 
 /* Kinds 0 to 3, which the program makes by itself; all take the block. */

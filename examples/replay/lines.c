@@ -8,12 +8,12 @@
 /* Places in an image. Those behind the states depend on the number of slots. */
 enum {
     QUEUE_LENGTH_AT = 4,
-    HAND_AT = 88,
-    HAND_SLOT_AT = 96,
-    HAND_LEFT_AT = 104,
-    STARTED_AT = 112,
-    ARMED_AT = 120,
-    STATES_AT = 128
+    HAND_AT = 96,
+    HAND_SLOT_AT = 104,
+    HAND_LEFT_AT = 112,
+    STARTED_AT = 120,
+    ARMED_AT = 128,
+    STATES_AT = 136
 };
 
 uint64_t number_at(const uint8_t *bytes, unsigned width)

@@ -15,7 +15,7 @@ struct function {
 enum { LAYOUT, DERIVE, PLAN, FUNCTIONS };
 
 static const struct function functions[FUNCTIONS] = {
-    {"layout", 3, {UINT64_MAX, UINT64_MAX, UINT64_MAX}, USBFS_ISO_LAYOUT_NUMBERS},
+    {"layout", 4, {UINT64_MAX, UINT64_MAX, UINT64_MAX, UINT64_MAX}, USBFS_ISO_LAYOUT_NUMBERS},
     {"derive", 6, {UINT32_MAX, UINT8_MAX, UINT64_MAX, UINT64_MAX, UINT32_MAX, UINT64_MAX},
      USBFS_ISO_SCHEDULE_NUMBERS},
     {"plan", 7, {UINT32_MAX, UINT8_MAX, UINT16_MAX, UINT8_MAX, UINT64_MAX, UINT32_MAX, UINT64_MAX},
@@ -33,7 +33,7 @@ static uint32_t ask(uint64_t function, const uint64_t *a, uint64_t *results, siz
 {
     switch (function) {
     case LAYOUT:
-        return usbfs_iso_layout(a[0], a[1], a[2], results, results_length);
+        return usbfs_iso_layout(a[0], a[1], a[2], a[3], results, results_length);
     case DERIVE:
         return usbfs_iso_derive(speed_of(a[0]), (uint8_t)a[1], a[2], a[3], (uint32_t)a[4], a[5], results,
                                 results_length);

@@ -81,7 +81,7 @@ bool read_number(FILE *input, uint64_t at_most, uint64_t *number)
     return value <= at_most;
 }
 
-/* The ten numbers behind a run's 1. */
+/* The eleven numbers behind a run's 1. */
 bool read_opening(FILE *input, struct opening *opening)
 {
     return read_number(input, UINT64_MAX, &opening->slots)
@@ -92,6 +92,7 @@ bool read_opening(FILE *input, struct opening *opening)
            && read_number(input, UINT8_MAX, &opening->silence_byte)
            && read_number(input, UINT64_MAX, &opening->base)
            && read_number(input, UINT64_MAX, &opening->tag)
+           && read_number(input, UINT64_MAX, &opening->frame_bytes)
            && read_number(input, BLOCK_AT_MOST, &opening->block_length)
            && read_number(input, IMAGE_BUFFER, &opening->image_length);
 }

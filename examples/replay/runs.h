@@ -39,7 +39,7 @@ enum call_kind {
 
 /* What usbfs_iso_open takes, the lengths of block and image included. */
 struct opening {
-    uint64_t slots, packets_per_urb, packet_bytes, endpoint, policy, silence_byte, base, tag;
+    uint64_t slots, packets_per_urb, packet_bytes, endpoint, policy, silence_byte, base, tag, frame_bytes;
     uint64_t block_length, image_length;
 };
 

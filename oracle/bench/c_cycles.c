@@ -4,7 +4,7 @@
 
 #include "usbfs_iso.h"
 
-enum { IMAGE_MOST = 192 + 5 * 256, EAGAIN_NUMBER = 11 };
+enum { IMAGE_MOST = USBFS_ISO_IMAGE_SIZE(256), FRAME_BYTES = 1, EAGAIN_NUMBER = 11 };
 
 uint64_t usbfs_iso_c_cycles(size_t packets, size_t packet_bytes, size_t base, const size_t *addresses, size_t slots,
                             size_t rounds, void *block, size_t block_len)
@@ -15,8 +15,8 @@ uint64_t usbfs_iso_c_cycles(size_t packets, size_t packet_bytes, size_t base, co
     size_t size = (size_t)usbfs_iso_image_size(slots);
     size_t i = 0;
 
-    if (usbfs_iso_open(slots, packets, packet_bytes, 1, USBFS_ISO_POLICY_CONTINUE, 0, base, 0, block, block_len, image, size,
-                       numbers, sizeof numbers) != 0)
+    if (usbfs_iso_open(slots, packets, packet_bytes, 1, USBFS_ISO_POLICY_CONTINUE, 0, base, 0, FRAME_BYTES, block,
+                       block_len, image, size, numbers, sizeof numbers) != 0)
         return 0;
     for (size_t k = 0; k < rounds; k++) {
         if (k >= slots) {

@@ -12,7 +12,7 @@
 
 #include "usbfs_iso.h"
 
-enum { SLOTS = 256, PACKETS = 8, BYTES = 192, STOPS = 20000, GOES = 21 };
+enum { SLOTS = 256, PACKETS = 8, BYTES = 192, FRAME_BYTES = 1, STOPS = 20000, GOES = 21 };
 
 typedef uint64_t Stops(uint64_t packets, uint64_t packet_bytes, uint64_t base, const uint64_t *addresses, size_t slots,
                        const uint64_t *back, size_t back_len, uint64_t count, uint64_t *list, size_t list_len, void *block,
@@ -47,7 +47,7 @@ static uint64_t took(Stops *stops, const struct row *row, uint64_t count)
     static unsigned char *block;
     uint64_t total, start, listed, spent;
 
-    if (usbfs_iso_layout(SLOTS, PACKETS, BYTES, layout, sizeof layout) != 0)
+    if (usbfs_iso_layout(SLOTS, PACKETS, BYTES, FRAME_BYTES, layout, sizeof layout) != 0)
         abort();
     total = layout[USBFS_ISO_LAYOUT_TOTAL];
     if (block == NULL && (block = aligned_alloc(layout[USBFS_ISO_LAYOUT_ALIGNMENT], total)) == NULL)

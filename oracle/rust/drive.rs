@@ -68,6 +68,8 @@ fn draw_opening(rng: &mut Rng, longest_block: u64) -> (Opening, u64) {
             silence: rng.below(256),
             base: script::arena() + 64 * rng.below(1024),
             tagged: u64::from(cfg!(target_arch = "aarch64")),
+            // The Rust fills a packet whatever a frame is.
+            frame: 1,
             block_len,
             // A little more than the image takes.
             image_len: image_size(n) + 8,

@@ -12,7 +12,7 @@ use crate::schedule::{packet_interval_us, Depth, Schedule};
 use crate::{Error, Result, Speed};
 
 /// What the published Rust gives, with the interval of `kernels_interval` where that has one. None where it wraps
-/// around 2^64 and the paper says that it differs.
+/// around 2^64 and the paper says that it differs. It has no frame size: every question's is 1.
 pub fn expected(q: &Question) -> Option<Figures> {
     Some(result(q)?.map_err(|e| match (q[0], refusal(&e)) {
         // The builder's refusal of an endpoint has a number of its own.

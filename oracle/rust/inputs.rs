@@ -58,6 +58,8 @@ const DEPTHS: [(u64, u64); 24] = [
 const PACKETS: [(u64, u64); 10] =
     [(0, 0), (1, 0), (1, 1), (1, 2), (1, 3), (1, 8), (1, 127), (1, 128), (1, 129), (1, u64::MAX)];
 const SPEEDS: std::ops::Range<u64> = 0..7;
+/// The frame size with which the paper has the Rust's figures.
+const FRAME: u64 = 1;
 
 fn question(function: u64, arguments: &[u64]) -> Question {
     let mut q = [0; FUNCTION_NUMBERS];
@@ -101,14 +103,14 @@ fn layouts(ask: &mut dyn FnMut(Question)) {
     for n in 0..6 {
         for p in 0..=130 {
             for b in 0..=130 {
-                ask(question(function::LAYOUT, &[n, p, b]));
+                ask(question(function::LAYOUT, &[n, p, b, FRAME]));
             }
         }
     }
     for n in SIZES {
         for p in SIZES {
             for b in SIZES {
-                ask(question(function::LAYOUT, &[n, p, b]));
+                ask(question(function::LAYOUT, &[n, p, b, FRAME]));
             }
         }
     }
@@ -146,7 +148,9 @@ fn plans(ask: &mut dyn FnMut(Question)) {
     }
 }
 
+/// The frame size is absent and given in turn.
 fn builds(ask: &mut dyn FnMut(Question)) {
+    let mut framed = 0;
     for speed in [0, 2, 3, 6] {
         for (known, interval) in [(0, 0), (1, 0), (1, 1), (1, 4), (1, 15), (1, 16), (1, 17)] {
             for (sized, size) in [(0, 0), (1, 0), (1, 1), (1, 100), (1, 49_152)] {
@@ -156,7 +160,8 @@ fn builds(ask: &mut dyn FnMut(Question)) {
                             for (chosen, packets) in [(0, 0), (1, 0), (1, 8), (1, 128), (1, 129)] {
                                 let first = [speed, known, interval, sized, size, given];
                                 let last = [bytes, endpoint, depth, value, chosen, packets];
-                                ask(question(function::BUILD, &[first, last].concat()));
+                                framed = 1 - framed;
+                                ask(question(function::BUILD, &[&first[..], &last, &[framed, FRAME]].concat()));
                             }
                         }
                     }

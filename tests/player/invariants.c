@@ -8,7 +8,7 @@
 #include <string.h>
 #include <usbfs_iso.h>
 
-enum { QUEUE_LENGTH_AT = 4, HAND_KIND_AT = 88, STATES_AT = 128, IN_FLIGHT = 2 };
+enum { QUEUE_LENGTH_AT = 4, FRAME_BYTES_AT = 88, HAND_KIND_AT = 96, STATES_AT = 136, IN_FLIGHT = 2 };
 
 struct invariants invariants;
 
@@ -34,6 +34,7 @@ static void check(const uint8_t *image)
         out += image[STATES_AT + k] >= IN_FLIGHT;
     invariants.calls++;
     invariants.out = out;
+    invariants.frame_bytes = number_at(image + FRAME_BYTES_AT, 8);
     invariants.transferred = counter(image, slots, USBFS_ISO_COUNTER_BYTES_TRANSFERRED);
     check_that(submitted == completed + invariants.discarded + out, "submitted = completed + discarded + out");
     check_that(slots == out + queued + in_hand, "every slot is out, in the queue or in hand");

@@ -9,6 +9,7 @@ struct invariants {
     uint64_t calls, wrong;        /* calls checked; checks that failed */
     uint64_t discarded;           /* URBs that came back discarded */
     uint64_t out;                 /* slots out, by the image */
+    uint64_t frame_bytes;         /* of the ring's frames, by the image */
     uint64_t transferred;         /* the image's counter of bytes transferred */
     void (*returned)(int is_discarded); /* what else is to be done when a URB came back, or NULL */
     void (*checked)(void);              /* what else is to be checked after a call, or NULL */

@@ -16,20 +16,21 @@
 
 int player_main(int count, char **arguments); /* main of examples/player.c */
 
-enum { FRAME_BYTES = 4, SECONDS = 60, WAV_HEADER = 44 };
+enum { MOST_FRAME_BYTES = 6, SECONDS = 60, WAV_HEADER = 44 };
 enum ending { ALL_PLAYED, LOSSES, GONE_AWAY, STOPPED, NOT_BACK, REFUSED, ENDINGS, FAILED };
 static const char *const endings[] = {"played whole", "with losses",    "loudspeaker gone",
                                       "stopped",      "no buffer back", "URB refused"};
 
-/* What a seed has the player play: frames that tell their own number. */
+/* What a seed has the player play: stereo frames of 16 or 24 bits a sample, which tell their own number. */
 struct trial {
     uint64_t seed;
     char wav[64], slots[8], packets[8], script[24];
     uint32_t rate;
-    size_t frames, packets_in_slot;
+    size_t frames, frame_bytes, packets_in_slot;
 };
 
 static uint64_t transferred, discarded;
+static size_t frame_bytes; /* of the sound that is played */
 
 static void returned(int is_discarded)
 {
@@ -40,38 +41,39 @@ static void checked(void)
 {
     check_that(invariants.transferred == transferred, "bytes transferred = bytes played of the URBs that came back");
     check_that(invariants.out == simulated_account.out, "out = URBs that the kernel has");
+    check_that(invariants.frame_bytes == frame_bytes, "the ring's frames are the sound's");
 }
 
 static void put_frame(uint8_t *at, size_t number)
 {
-    put_number(at, 4, number * 2654435761u + 1); /* odd factor: no two of 2^32 frames are the same */
+    put_number(at, (unsigned)frame_bytes, number * 2654435761u + 1); /* odd factor: no two of 2^32 are the same */
 }
 
 static bool write_wav(const struct trial *c)
 {
-    uint8_t header[WAV_HEADER] = "RIFF....WAVEfmt ", frame[FRAME_BYTES];
+    uint8_t header[WAV_HEADER] = "RIFF....WAVEfmt ", frame[MOST_FRAME_BYTES];
     FILE *file = fopen(c->wav, "wb");
     if (file == NULL)
         return false;
-    put_number(header + 4, 4, 36 + FRAME_BYTES * c->frames);
+    put_number(header + 4, 4, 36 + c->frame_bytes * c->frames);
     put_number(header + 16, 4, 16);
     put_number(header + 20, 2, 1);
     put_number(header + 22, 2, 2);
     put_number(header + 24, 4, c->rate);
-    put_number(header + 28, 4, c->rate * FRAME_BYTES);
-    put_number(header + 32, 2, FRAME_BYTES);
-    put_number(header + 34, 2, 16);
+    put_number(header + 28, 4, c->rate * c->frame_bytes);
+    put_number(header + 32, 2, c->frame_bytes);
+    put_number(header + 34, 2, c->frame_bytes / 2 * 8);
     memcpy(header + 36, "data", 4);
-    put_number(header + 40, 4, FRAME_BYTES * c->frames);
+    put_number(header + 40, 4, c->frame_bytes * c->frames);
     fwrite(header, 1, sizeof header, file);
     for (size_t k = 0; k < c->frames; k++) {
         put_frame(frame, k);
-        fwrite(frame, 1, sizeof frame, file);
+        fwrite(frame, 1, c->frame_bytes, file);
     }
     return fclose(file) == 0;
 }
 
-/* Up to two and a half seconds of sound, of any length in frames; a ring of any shape. */
+/* Up to two and a half seconds of sound, of any length in frames; a ring of any shape. 24 bits fit at up to 32 kHz. */
 static void choose_trial(struct trial *c, uint64_t seed, const char *directory)
 {
     static const uint32_t rates[] = {48000, 48000, 48000, 44100, 32000, 11025, 8000};
@@ -87,6 +89,7 @@ static void choose_trial(struct trial *c, uint64_t seed, const char *directory)
     c->packets_in_slot = is_shop ? 8 : 1 + next_random(&random) % 20;
     snprintf(c->slots, sizeof c->slots, "%d", is_shop ? 8 : 2 + (int)(next_random(&random) % 14));
     snprintf(c->packets, sizeof c->packets, "%d", (int)c->packets_in_slot);
+    c->frame_bytes = c->rate <= 32000 && next_random(&random) % 2 == 0 ? 6 : 4;
     snprintf(c->script, sizeof c->script, "%" PRIu64, seed);
     snprintf(c->wav, sizeof c->wav, "%s/sound.wav", directory);
 }
@@ -98,8 +101,8 @@ static size_t frames_by(const struct trial *c, size_t packet)
 }
 
 /*
- * Every packet heard is a piece of the sound that stands behind the one before it; right behind it, if there may be no
- * gap; and of a sound played whole, the frames that are due.
+ * Every packet heard is a piece of the sound that stands behind the one before it; right behind it and in whole frames,
+ * if there may be no gap; and of a sound played whole, the frames that are due.
  */
 static void check_heard(const struct trial *c, bool is_whole, bool has_no_gap)
 {
@@ -107,18 +110,19 @@ static void check_heard(const struct trial *c, bool is_whole, bool has_no_gap)
     size_t next = 0;
     for (size_t k = 0; k < account->packets; k++) {
         size_t start = account->starts[k], end = k + 1 < account->packets ? account->starts[k + 1] : account->played;
-        uint8_t frame[FRAME_BYTES];
+        uint8_t frame[MOST_FRAME_BYTES];
         if (is_whole)
-            check_that(start == FRAME_BYTES * frames_by(c, k), "each packet has the frames that are due");
-        if (end - start < FRAME_BYTES)
+            check_that(start == frame_bytes * frames_by(c, k), "each packet has the frames that are due");
+        check_that(!has_no_gap || (end - start) % frame_bytes == 0, "no packet ends inside a frame");
+        if (end - start < frame_bytes)
             continue;
-        for (put_frame(frame, next); next < c->frames && memcmp(frame, account->heard + start, FRAME_BYTES) != 0;) {
+        for (put_frame(frame, next); next < c->frames && memcmp(frame, account->heard + start, frame_bytes) != 0;) {
             check_that(!has_no_gap, "what was heard has no gap");
             put_frame(frame, ++next);
         }
-        for (; end - start >= FRAME_BYTES; start += FRAME_BYTES, next++) {
+        for (; end - start >= frame_bytes; start += frame_bytes, next++) {
             put_frame(frame, next);
-            check_that(next < c->frames && memcmp(frame, account->heard + start, FRAME_BYTES) == 0,
+            check_that(next < c->frames && memcmp(frame, account->heard + start, frame_bytes) == 0,
                        "what was heard is the sound, in order");
         }
     }
@@ -165,8 +169,9 @@ static enum ending play_trial(const struct trial *c)
 {
     char *arguments[] = {"player",    "--simulate",       (char *)c->script, "--slots", (char *)c->slots,
                          "--packets", (char *)c->packets, (char *)c->wav,    NULL};
-    uint64_t said_played = 0, said_all = 0, length = FRAME_BYTES * c->frames;
+    uint64_t said_played = 0, said_all = 0, length = c->frame_bytes * c->frames;
     FILE *said = tmpfile();
+    frame_bytes = c->frame_bytes;
     if (said == NULL || dup2(fileno(said), STDOUT_FILENO) < 0 || !write_wav(c))
         return FAILED;
     invariants.returned = returned;
@@ -185,22 +190,20 @@ static enum ending play_trial(const struct trial *c)
     check_that(is_whole || !is_harmless(c, false), "where nothing is lost all is played");
     check_heard(c, is_whole, is_harmless(c, true));
     check_that(said_all == (c->frames * 1000 + c->rate - 1) / c->rate, "how long the sound is");
-    check_that(is_whole || said_played == back / FRAME_BYTES * 1000 / c->rate, "how much of it was played");
+    check_that(is_whole || said_played == back / c->frame_bytes * 1000 / c->rate, "how much of it was played");
     return invariants.wrong == 0 ? ending : FAILED;
 }
 
-/* Plays a seed in a process of its own, which may last so long and no longer. */
-static enum ending play_seed(uint64_t seed, const char *directory, uint64_t *calls)
+/* Plays a trial in a process of its own, which may last so long and no longer. */
+static enum ending play_apart(const struct trial *c, uint64_t *calls)
 {
     int numbers[2], status;
     if (pipe(numbers) != 0)
         return FAILED;
     pid_t child = fork();
     if (child == 0) {
-        struct trial c;
         alarm(SECONDS);
-        choose_trial(&c, seed, directory);
-        enum ending ending = play_trial(&c);
+        enum ending ending = play_trial(c);
         if (write(numbers[1], &invariants.calls, sizeof invariants.calls) != sizeof invariants.calls)
             ending = FAILED;
         _exit(ending);
@@ -218,14 +221,18 @@ int main(int count, char **arguments)
 {
     uint64_t seeds = count > 1 ? strtoull(arguments[1], NULL, 10) : 0;
     uint64_t first = count > 2 ? strtoull(arguments[2], NULL, 10) : 1, all_calls = 0;
-    unsigned long endings_seen[ENDINGS] = {0}, failed = 0;
+    unsigned long endings_seen[ENDINGS] = {0}, failed = 0, deep = 0, deep_whole = 0;
     char directory[] = "/tmp/player-seeds.XXXXXX", wav[64];
     if (seeds == 0 || mkdtemp(directory) == NULL)
         return 2;
     for (uint64_t seed = first; seed < first + seeds && failed < 5; seed++) {
         uint64_t calls = 0;
-        enum ending ending = play_seed(seed, directory, &calls);
+        struct trial c;
+        choose_trial(&c, seed, directory);
+        enum ending ending = play_apart(&c, &calls);
         all_calls += calls;
+        deep += c.frame_bytes == 6;
+        deep_whole += c.frame_bytes == 6 && ending == ALL_PLAYED;
         if (ending != FAILED) {
             endings_seen[ending]++;
             continue;
@@ -238,8 +245,9 @@ int main(int count, char **arguments)
     rmdir(directory);
     printf("seeds: %" PRIu64 " seeds, %" PRIu64 " calls, %lu failed;", seeds, all_calls, failed);
     for (int k = 0; k < ENDINGS; k++) {
-        printf(" %s %lu%s", endings[k], endings_seen[k], k + 1 < ENDINGS ? "," : "\n");
+        printf(" %s %lu%s", endings[k], endings_seen[k], k + 1 < ENDINGS ? "," : ";");
         failed += seeds >= 1000 && endings_seen[k] == 0; /* each way to end must have been met */
     }
-    return failed != 0;
+    printf(" of 24 bits %lu, %lu of them played whole\n", deep, deep_whole);
+    return failed != 0 || (seeds >= 1000 && deep_whole == 0);
 }

@@ -22,6 +22,7 @@ pub fn setup(slots: usize, packets: usize, packet_bytes: usize, base: usize) -> 
         silence_byte: 0,
         base,
         tagged: false,
+        frame_bytes: 1,
     }
 }
 

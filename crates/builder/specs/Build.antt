@@ -58,6 +58,7 @@ setupOf b schedule base tagged =
       «silence_byte» = b .«silence_byte»;
       base = base;
       tagged = tagged;
+      «frame_bytes» = b .«frame_bytes»;
     }
 
 -- Opening's refusal, or the schedule.

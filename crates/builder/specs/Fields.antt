@@ -9,7 +9,7 @@ use Rattle.builder.specs.declared.PacketSize.{PacketSize}
 use Rattle.builder.specs.declared.PacketBytes.{PacketBytes}
 use Rattle.builder.specs.declared.IsoOutBuilder.{IsoOutBuilder}
 
--- The Rust's defaults: 8 ms, Continue, silence byte 0; the rest is unknown or absent.
+-- The Rust's defaults: 8 ms, Continue, silence byte 0; frames of one byte, as before request 2026-04; the rest is unknown or absent.
 abbrev pub newBuilder : ℕ → Speed → IsoOutBuilder
 newBuilder endpoint speed =
     record {
@@ -22,6 +22,7 @@ newBuilder endpoint speed =
       depth = Depth.Millis 8;
       underrun = Underrun.Continue;
       «silence_byte» = 0;
+      «frame_bytes» = 1;
     }
 
 abbrev pub withMaxPacketSize : ℕ → IsoOutBuilder → IsoOutBuilder
@@ -36,6 +37,7 @@ withMaxPacketSize bytes b =
       depth = b .depth;
       underrun = b .underrun;
       «silence_byte» = b .«silence_byte»;
+      «frame_bytes» = b .«frame_bytes»;
     }
 
 abbrev pub withInterval : ℕ → IsoOutBuilder → IsoOutBuilder
@@ -50,6 +52,7 @@ withInterval bInterval b =
       depth = b .depth;
       underrun = b .underrun;
       «silence_byte» = b .«silence_byte»;
+      «frame_bytes» = b .«frame_bytes»;
     }
 
 abbrev pub withSpeed : Speed → IsoOutBuilder → IsoOutBuilder
@@ -64,6 +67,7 @@ withSpeed speed b =
       depth = b .depth;
       underrun = b .underrun;
       «silence_byte» = b .«silence_byte»;
+      «frame_bytes» = b .«frame_bytes»;
     }
 
 abbrev pub withPacketBytes : ℕ → IsoOutBuilder → IsoOutBuilder
@@ -78,6 +82,7 @@ withPacketBytes bytes b =
       depth = b .depth;
       underrun = b .underrun;
       «silence_byte» = b .«silence_byte»;
+      «frame_bytes» = b .«frame_bytes»;
     }
 
 abbrev pub withPacketsPerUrb : ℕ → IsoOutBuilder → IsoOutBuilder
@@ -92,6 +97,7 @@ withPacketsPerUrb packets b =
       depth = b .depth;
       underrun = b .underrun;
       «silence_byte» = b .«silence_byte»;
+      «frame_bytes» = b .«frame_bytes»;
     }
 
 abbrev pub withDepth : Depth → IsoOutBuilder → IsoOutBuilder
@@ -106,6 +112,7 @@ withDepth depth b =
       depth = depth;
       underrun = b .underrun;
       «silence_byte» = b .«silence_byte»;
+      «frame_bytes» = b .«frame_bytes»;
     }
 
 abbrev pub withUnderrun : Underrun → IsoOutBuilder → IsoOutBuilder
@@ -120,6 +127,7 @@ withUnderrun underrun b =
       depth = b .depth;
       underrun = underrun;
       «silence_byte» = b .«silence_byte»;
+      «frame_bytes» = b .«frame_bytes»;
     }
 
 abbrev pub withSilenceByte : ℕ → IsoOutBuilder → IsoOutBuilder
@@ -134,4 +142,20 @@ withSilenceByte byte b =
       depth = b .depth;
       underrun = b .underrun;
       «silence_byte» = byte;
+      «frame_bytes» = b .«frame_bytes»;
+    }
+
+abbrev pub withFrameBytes : ℕ → IsoOutBuilder → IsoOutBuilder
+withFrameBytes bytes b =
+    record {
+      endpoint = b .endpoint;
+      «max_packet_size» = b .«max_packet_size»;
+      interval = b .interval;
+      speed = b .speed;
+      «packet_bytes» = b .«packet_bytes»;
+      «packets_per_urb» = b .«packets_per_urb»;
+      depth = b .depth;
+      underrun = b .underrun;
+      «silence_byte» = b .«silence_byte»;
+      «frame_bytes» = bytes;
     }

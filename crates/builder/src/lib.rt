@@ -15,6 +15,7 @@ ghost use Rattle.schedule.specs.declared.Derived.{Derived};
 ghost use Rattle.stream.specs.declared.Answer.{Answer};
 ghost use Rattle.builder.specs.Fields.{newBuilder, withMaxPacketSize, withInterval, withSpeed, withPacketBytes};
 ghost use Rattle.builder.specs.Fields.{withPacketsPerUrb, withDepth, withUnderrun, withSilenceByte};
+ghost use Rattle.builder.specs.Fields.{withFrameBytes};
 ghost use Rattle.builder.specs.Build.{bytesOr, sizedPlan, planOf, setupOf, buildOutcome};
 
 // The endpoint's bInterval, where it is known.
@@ -52,6 +53,7 @@ pub struct IsoOutBuilder {
     pub depth: Depth,
     pub underrun: Underrun,
     pub silence_byte: u8,
+    pub frame_bytes: usize,
 }
 
 // Internal: absent packet bytes are the packet size.
@@ -77,7 +79,7 @@ fn opening_answer(answer: Answer, schedule: Schedule) -> Derived
 }
 
 impl IsoOutBuilder {
-    // A stream on an endpoint: 8 ms in flight, Continue, silence 0; the rest is unknown or absent.
+    // A stream on an endpoint: 8 ms in flight, Continue, silence 0, frames of one byte; the rest is unknown or absent.
     pub fn new(endpoint: u8, speed: Speed) -> IsoOutBuilder
         ensures { λ r. ⌜ r ≡ newBuilder endpoint speed ⌝ }
     {
@@ -91,6 +93,7 @@ impl IsoOutBuilder {
             depth: Depth::Millis(8),
             underrun: Underrun::Continue,
             silence_byte: 0,
+            frame_bytes: 1,
         }
     }
 
@@ -161,6 +164,16 @@ impl IsoOutBuilder {
         }
     }
 
+    // The bytes of a frame, a sample of every channel, which commit does not split over two packets.
+    pub fn frame_bytes(self, frame_bytes: usize) -> IsoOutBuilder
+        ensures { λ r. ⌜ r ≡ withFrameBytes «frame_bytes» self ⌝ }
+    {
+        IsoOutBuilder {
+            frame_bytes,
+            ..self
+        }
+    }
+
     // Internal: refusals 29 and 30, then derive's, for a known interval and packet size.
     fn sized_plan(self, b_interval: u8, size: usize) -> Derived
         ensures { λ r. ⌜ r ≡ sizedPlan self «b_interval» size ⌝ }
@@ -210,6 +223,7 @@ impl IsoOutBuilder {
             silence_byte: self.silence_byte,
             base,
             tagged,
+            frame_bytes: self.frame_bytes,
         }
     }
 

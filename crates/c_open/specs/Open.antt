@@ -17,7 +17,7 @@ use Rattle.image.specs.Reading.{imageSize}
 use Rattle.from_c.specs.Told.{FromC, told}
 use Rattle.from_c.specs.FromC.{notAnImage}
 
--- Opening's values are eight numbers: n, p, b, endpoint, policy, silence byte, base, tag. Policy or tag names none.
+-- Opening's values are nine numbers: n, p, b, endpoint, policy, silence byte, base, tag, f. Policy or tag names none.
 unfoldable pub namesNone : List ℕ → Bool
 namesNone numbers = ltb 2 (getD numbers 4 0) || ltb 1 (getD numbers 7 0)
 

@@ -41,14 +41,15 @@ pub fn open_stream(
     silence_byte: u8,
     base: u64,
     tag: u64,
+    frame_bytes: u64,
     block: &mut [u8],
     image: &mut [u8],
     out: &mut [u8],
 ) -> u32
     ensures { λ r.
         ⌜ Returned (openFromC
-        (slots ∷ «packets_per_urb» ∷ «packet_bytes» ∷ endpoint ∷ policy ∷ «silence_byte» ∷ base ∷ tag ∷ [])
-        (now (block .entry)) (now (image .entry)) (now (out .entry))) r (now (image .exit)) (now (block .exit))
+        (slots ∷ «packets_per_urb» ∷ «packet_bytes» ∷ endpoint ∷ policy ∷ «silence_byte» ∷ base ∷ tag ∷ «frame_bytes»
+        ∷ []) (now (block .entry)) (now (image .entry)) (now (out .entry))) r (now (image .exit)) (now (block .exit))
         (now (out .exit)) ⌝ }
 {
     if 2 < policy {
@@ -67,6 +68,7 @@ pub fn open_stream(
         silence_byte,
         base: base as usize,
         tagged: tag == 1,
+        frame_bytes: frame_bytes as usize,
     };
     open_in(setup, block, image, out)
 }

@@ -99,7 +99,7 @@ fn packets_held(s: Stream, i: usize, lengths: &[usize], block: &mut [u8]) -> Rep
     send(s, i)
 }
 
-// Commits `bytes` of the slot in hand: each packet gets the smaller of what is left and packet_bytes.
+// Commits `bytes` of the slot in hand: each packet gets the smaller of what is left and the whole frames that fit it.
 pub fn commit(s: Stream, bytes: usize, block: &mut [u8]) -> Reply
     ensures { λ r. ⌜ Told (Call.commit bytes (now (block .entry))) s (r .answer) (r .stream) (now (block .exit)) ⌝ }
 {

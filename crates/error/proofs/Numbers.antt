@@ -6,10 +6,10 @@ use mathlib.Core.Path.{_≡_, refl, sym, ap, _∙_}
 use mathlib.Core.List.{List, [], _∷_}
 use lib.ListN.{getD}
 use Rattle.error.specs.declared.Error.{Error}
-use Rattle.error.specs.declared.Error.the-variants.{TooFewSlots, ZeroSize, TooManyPackets, LayoutOverflow, TooLarge, BlockLength, BaseAddress, Unsound, WrongHand, CommitTooLong, PacketCount, PacketTooLong, Disconnected, UsbfsMemory, PermissionDenied, Unsupported, Io, StrayNotice, Underrun, ListTooShort, UnsupportedSpeed, InvalidInterval, ZeroPacketBytes, ZeroPackets, ProductOverflow, NotIsochronous, IntervalUnknown, PacketSizeUnknown, PacketBytesTooLarge, InvalidEndpoint, NotAnImage}
+use Rattle.error.specs.declared.Error.the-variants.{TooFewSlots, ZeroSize, TooManyPackets, LayoutOverflow, TooLarge, BlockLength, BaseAddress, Unsound, WrongHand, CommitTooLong, PacketCount, PacketTooLong, Disconnected, UsbfsMemory, PermissionDenied, Unsupported, Io, StrayNotice, Underrun, ListTooShort, UnsupportedSpeed, InvalidInterval, ZeroPacketBytes, ZeroPackets, ProductOverflow, NotIsochronous, IntervalUnknown, PacketSizeUnknown, PacketBytesTooLarge, InvalidEndpoint, NotAnImage, FrameSize}
 use Rattle.error.specs.Number.{numberOf, valueOf}
 
--- the refusals in the order of their numbers, from 1 on, with that value
+-- the refusals in the order of their numbers, from 1 on, with that value; 32 is no refusal's number, and in its place stands any
 refusals : ℕ → List Error
 refusals value =
     TooFewSlots
@@ -43,6 +43,8 @@ refusals value =
     ∷ PacketBytesTooLarge
     ∷ InvalidEndpoint
     ∷ NotAnImage
+    ∷ Unsound
+    ∷ FrameSize
     ∷ []
 
 pub refusalFrom : ℕ → ℕ → Error
@@ -81,6 +83,7 @@ refusal-back PacketSizeUnknown = refl
 refusal-back PacketBytesTooLarge = refl
 refusal-back InvalidEndpoint = refl
 refusal-back NotAnImage = refl
+refusal-back FrameSize = refl
 
 pub never-0 : (e : Error) → numberOf e ≡ 0 → ⊥
 unfolding refusalFrom refusals

@@ -6,7 +6,7 @@ use Rattle.error.specs.declared.Error.the-variants.{BaseAddress, Unsound
 use Rattle.error.specs.declared.Error.the-variants.{Disconnected, UsbfsMemory, PermissionDenied, Unsupported, Io, StrayNotice}
 use Rattle.error.specs.declared.Error.the-variants.{Underrun, ListTooShort, UnsupportedSpeed, InvalidInterval, ZeroPacketBytes}
 use Rattle.error.specs.declared.Error.the-variants.{ZeroPackets, ProductOverflow, NotIsochronous, IntervalUnknown}
-use Rattle.error.specs.declared.Error.the-variants.{PacketSizeUnknown, PacketBytesTooLarge, InvalidEndpoint, NotAnImage}
+use Rattle.error.specs.declared.Error.the-variants.{PacketSizeUnknown, PacketBytesTooLarge, InvalidEndpoint, NotAnImage, FrameSize}
 
 abbrev pub numberOf : Error → ℕ
 numberOf TooFewSlots = 1
@@ -40,6 +40,7 @@ numberOf PacketSizeUnknown = 28
 numberOf PacketBytesTooLarge = 29
 numberOf InvalidEndpoint = 30
 numberOf NotAnImage = 31
+numberOf FrameSize = 33
 
 -- 14 comes with n × p × b, 17 with the errno, 19 with the count; the others have no value, which is 0 here.
 abbrev pub valueOf : Error → ℕ
@@ -74,3 +75,4 @@ valueOf PacketSizeUnknown = 0
 valueOf PacketBytesTooLarge = 0
 valueOf InvalidEndpoint = 0
 valueOf NotAnImage = 0
+valueOf FrameSize = 0

@@ -46,6 +46,8 @@ pub enum Error {
     InvalidEndpoint,
     // Calls from C: 31.
     NotAnImage,
+    // The frame size: 33.
+    FrameSize,
 }
 
 // Which call an errno came from: a submission, with the ring's payload bytes, or another.
@@ -109,6 +111,7 @@ impl Error {
             Error::PacketBytesTooLarge => 29,
             Error::InvalidEndpoint => 30,
             Error::NotAnImage => 31,
+            Error::FrameSize => 33,
         }
     }
 

@@ -38,8 +38,8 @@ layoutFigures (Laid.Layout l) out =
           out;
     }
 
-unfoldable pub layoutFromC : ℕ → ℕ → ℕ → List ℕ → Figures
-layoutFromC n p b out = layoutFigures (laidOut n p b) out
+unfoldable pub layoutFromC : ℕ → ℕ → ℕ → ℕ → List ℕ → Figures
+layoutFromC n p b f out = layoutFigures (laidOut n p b f) out
 
 -- The bytes of an image of n slots; 0 where no ring has so many.
 unfoldable pub sizeFromC : ℕ → ℕ

@@ -14,14 +14,22 @@ ghost use Rattle.figures.specs.Figures.{Figured, layoutFromC, sizeFromC}
 ghost use Rattle.figures.specs.Figures.{scheduleFigures, depthFrom, deriveFromC, planFromC};
 
 // The layout's six numbers.
-pub fn layout_figures(slots: u64, packets_per_urb: u64, packet_bytes: u64, out: &mut [u8]) -> u32
+pub fn layout_figures(
+    slots: u64,
+    packets_per_urb: u64,
+    packet_bytes: u64,
+    frame_bytes: u64,
+    out: &mut [u8],
+) -> u32
     ensures { λ r.
-        ⌜ Figured (layoutFromC slots «packets_per_urb» «packet_bytes» (now (out .entry))) r (now (out .exit)) ⌝ }
+        ⌜ Figured (layoutFromC slots «packets_per_urb» «packet_bytes» «frame_bytes» (now (out .entry)))
+        r (now (out .exit)) ⌝ }
 {
     match RingLayout::new(
         slots as usize,
         packets_per_urb as usize,
         packet_bytes as usize,
+        frame_bytes as usize,
     ) {
         Laid::Refused(e) => e.number(),
         Laid::Layout(l) => {

@@ -79,21 +79,21 @@ bytes-below (suc k) [] below = rw pow-suc (omega (arith, bytes-below k [] below)
 bytes-below (suc k) (b ∷ l) below = below-suc k (ofLe (take k l)) b (bytes-below k l (λ i. below (suc i))) (below 0)
 
 module _ (bytes : List ℕ) (below : Bytes bytes) where
-  number-below : (at i : ℕ) → i < 8 → getD (numbersAt 8 8 at bytes) i 0 < 2 ^ 64
+  number-below : (k at i : ℕ) → i < k → getD (numbersAt 8 k at bytes) i 0 < 2 ^ 64
   unfolding numbersAt
-  number-below at i h =
-      rw (table-at (λ j. field (at + 8 * j) 8 bytes) 0 8 i h)
+  number-below k at i h =
+      rw (table-at (λ j. field (at + 8 * j) 8 bytes) 0 k i h)
       (bytes-below 8 (drop (at + 8 * i) bytes) (λ j. rw (getD-drop (at + 8 * i) bytes j 0) (below (at + 8 * i + j))))
 
   -- what is read fits
   read-fits : Fits (recordIn bytes .setup) (recordIn bytes .stats)
   unfolding recordIn setupIn setupFrom statsFrom
   read-fits =
-      let counter = number-below (countersAt (setupIn bytes .slots)) in
+      let counter = number-below 8 (countersAt (setupIn bytes .slots)) in
       record {
         endpoint = omega arith;
         silence = omega arith;
-        base = number-below setupAt 6 (omega arith);
+        base = number-below 9 setupAt 6 (omega arith);
         submitted = counter 0 (omega arith);
         completed = counter 1 (omega arith);
         bytes-submitted = counter 2 (omega arith);

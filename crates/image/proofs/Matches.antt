@@ -121,11 +121,11 @@ module _ (bytes : List ℕ) where
           ap (λ (l : List ℕ). begins l bytes) record-image
           ∙ behind 0 24 (header bytes) _ bytes (length-header n (used bytes))
           ∙ ap (λ (t : Bool). begins (header bytes) bytes && t)
-          (behind 24 104 (setup bytes) _ bytes (length-setup (setupIn bytes) (handIn bytes) (flagsIn bytes .started) (flagsIn bytes .armed))
+          (behind 24 112 (setup bytes) _ bytes (length-setup (setupIn bytes) (handIn bytes) (flagsIn bytes .started) (flagsIn bytes .armed))
           ∙ ap (λ (t : Bool). begins (setup bytes) (drop setupAt bytes) && t)
-          (behind 128 n (states bytes) _ bytes (part-long 1 n _ (table-long _ n) ∙ omega arith)
+          (behind statesAt n (states bytes) _ bytes (part-long 1 n _ (table-long _ n) ∙ omega arith)
           ∙ ap (λ (t : Bool). begins (states bytes) (drop statesAt bytes) && t)
-          (behind (128 + n) (4 * n) (queue bytes) _ bytes (part-long 4 n _ (places-long n _))
+          (behind (queueAt n) (4 * n) (queue bytes) _ bytes (part-long 4 n _ (places-long n _))
           ∙ ap (λ (t : Bool). begins (queue bytes) (drop (queueAt n) bytes) && t) counters-match
           ∙ and-true (begins (queue bytes) (drop (queueAt n) bytes)))))
           ∙ sym (and-assoc (begins (header bytes) bytes) (begins (setup bytes) (drop setupAt bytes)) _)

@@ -142,7 +142,7 @@ module _ (s : Setup) (l : Ledger) (ok : admissible s ≡ true) (v : Valid (s .sl
 
   hand-here : Stands 8 handAt (handNumbers (l .hand)) behindHand bytes
   unfolding setupNumbers behindSetup
-  hand-here = next setup-here 8 8 (handNumbers (l .hand)) behindHand refl refl
+  hand-here = next setup-here 8 9 (handNumbers (l .hand)) behindHand refl refl
 
   flags-here : Stands 8 flagsAt (one (l .started) ∷ one (l .armed) ∷ []) behindFlags bytes
   unfolding behindHand
@@ -186,12 +186,13 @@ module _ (s : Setup) (l : Ledger) (ok : admissible s ≡ true) (v : Valid (s .sl
         lt-ltb (s .«silence_byte») (256 ^ 8) (omega (arith, f .silence)),
         lt-ltb (s .base) (256 ^ 8) (omega (arith, f .base)),
         lt-ltb (cond (s .tagged) 1 0) (256 ^ 8) (tag-small (s .tagged)),
+        lt-ltb (s .«frame_bytes») (256 ^ 8) (omega (arith, a .frame, a .bytes)),
       )
 
   setup-in : setupIn bytes ≡ s
   unfolding setupIn setupNumbers
   setup-in =
-      ap setupFrom (read-all setup-here (below-at (256 ^ 8) (setupNumbers s) setup-fits) 8 refl) ∙ setup-back s (f .endpoint) (f .silence)
+      ap setupFrom (read-all setup-here (below-at (256 ^ 8) (setupNumbers s) setup-fits) 9 refl) ∙ setup-back s (f .endpoint) (f .silence)
 
   hand-in : handIn bytes ≡ l .hand
   unfolding handIn

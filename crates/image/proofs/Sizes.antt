@@ -1,4 +1,4 @@
--- How long an image is and where its parts stand: a part's length is its width times its numbers, and the setup part has 13 numbers, whatever
+-- How long an image is and where its parts stand: a part's length is its width times its numbers, and the setup part has 14 numbers, whatever
 -- the hand. Where there are n states, the header's offsets are therefore those at which the parts are read. Assumes nothing.
 use Prim.Native.Nat.{ℕ, _+_, _*_}
 use native.Mathlib.Omega.{arith}

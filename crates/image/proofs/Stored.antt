@@ -79,6 +79,6 @@ module _ (s : Stream) (ok : sound s ≡ true) (wide : Wide (s .ring)) where
       (sym
       (ap (λ (b : List ℕ). store 0 b l) in-a-row
       ∙ stored-behind 0 24 header _ l (length-header m (s .ring .«free_len»))
-      ∙ stored-behind 24 104 setup _ _ (length-setup (s .setup) (s .hand) (s .flags .started) (s .flags .armed))
-      ∙ stored-behind 128 m states _ _ (table-long _ m)
-      ∙ stored-behind (128 + m) (4 * m) queue counters _ (part-long 4 m _ (places-long m _))))
+      ∙ stored-behind 24 112 setup _ _ (length-setup (s .setup) (s .hand) (s .flags .started) (s .flags .armed))
+      ∙ stored-behind statesAt m states _ _ (table-long _ m)
+      ∙ stored-behind (queueAt m) (4 * m) queue counters _ (part-long 4 m _ (places-long m _))))

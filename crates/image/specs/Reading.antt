@@ -25,7 +25,7 @@ abbrev pub setupAt : ℕ
 setupAt = 24
 
 abbrev pub handAt : ℕ
-handAt = setupAt + 8 * 8
+handAt = setupAt + 8 * 9
 
 abbrev pub flagsAt : ℕ
 flagsAt = handAt + 8 * 3
@@ -66,7 +66,7 @@ statsFrom numbers =
     }
 
 unfoldable pub setupIn : List ℕ → Setup
-setupIn bytes = setupFrom (numbersAt 8 8 setupAt bytes)
+setupIn bytes = setupFrom (numbersAt 8 9 setupAt bytes)
 
 unfoldable pub handIn : List ℕ → Hand
 handIn bytes = handFrom (field handAt 8 bytes) (field (handAt + 8) 8 bytes) (field (handAt + 16) 8 bytes)

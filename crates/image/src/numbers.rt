@@ -15,11 +15,14 @@ ghost use Rattle.image.specs.Reading.{queueAt, countersAt, imageSize, he
 
 pub const SETUP_AT: usize = 24;
 
-pub const HAND_AT: usize = 88;
+pub const HAND_AT: usize = SETUP_AT + 8 * 9;
 
-pub const FLAGS_AT: usize = 112;
+pub const FLAGS_AT: usize = HAND_AT + 8 * 3;
 
-pub const STATES_AT: usize = 128;
+pub const STATES_AT: usize = FLAGS_AT + 8 * 2;
+
+// The bytes of an image but for its slots'.
+pub const LEAST_SIZE: usize = STATES_AT + 8 * 8;
 
 // Internal: where the queue starts, for n slots.
 pub fn queue_at(n: usize) -> usize
@@ -121,7 +124,7 @@ pub fn header_numbers(n: usize, used: usize) -> [u64; 6]
 }
 
 // The setup part's numbers.
-pub fn setup_numbers(setup: Setup, hand: Hand, flags: Flags) -> [u64; 13]
+pub fn setup_numbers(setup: Setup, hand: Hand, flags: Flags) -> [u64; 14]
     ensures { λ r. ⌜ r ≡ setupFor setup hand (flags .started) (flags .armed) ⌝ }
 {
     let h = hand_numbers(hand);
@@ -139,6 +142,7 @@ pub fn setup_numbers(setup: Setup, hand: Hand, flags: Flags) -> [u64; 13]
         setup.silence_byte as u64,
         setup.base as u64,
         tag,
+        setup.frame_bytes as u64,
         h.kind,
         h.slot,
         h.left,

@@ -1,6 +1,7 @@
 // Reading an image.
 use crate::numbers::FLAGS_AT;
 use crate::numbers::HAND_AT;
+use crate::numbers::LEAST_SIZE;
 use crate::numbers::SETUP_AT;
 use crate::numbers::STATES_AT;
 use crate::numbers::counters_at;
@@ -68,7 +69,7 @@ fn hand_from(kind: u64, slot: u64, left: u64) -> Hand
 
 // Internal: opening's values.
 fn read_setup(image: &[u8]) -> Setup
-    requires { ⌜ 192 ≤ length (now image) ⌝ }
+    requires { ⌜ imageSize 0 ≤ length (now image) ⌝ }
     ensures { λ r. ⌜ r ≡ setupIn (now (image .entry)) ⌝ }
 {
     let policy = policy_from(get_u64(image, SETUP_AT + 32));
@@ -81,12 +82,13 @@ fn read_setup(image: &[u8]) -> Setup
         silence_byte: (get_u64(image, SETUP_AT + 40) % 256) as u8,
         base: get_u64(image, SETUP_AT + 48) as usize,
         tagged: get_u64(image, SETUP_AT + 56) == 1,
+        frame_bytes: get_u64(image, SETUP_AT + 64) as usize,
     }
 }
 
 // Internal: the hand.
 fn read_hand(image: &[u8]) -> Hand
-    requires { ⌜ 192 ≤ length (now image) ⌝ }
+    requires { ⌜ imageSize 0 ≤ length (now image) ⌝ }
     ensures { λ r. ⌜ r ≡ handIn (now (image .entry)) ⌝ }
 {
     hand_from(
@@ -98,7 +100,7 @@ fn read_hand(image: &[u8]) -> Hand
 
 // Internal: started and armed.
 fn read_flags(image: &[u8]) -> Flags
-    requires { ⌜ 192 ≤ length (now image) ⌝ }
+    requires { ⌜ imageSize 0 ≤ length (now image) ⌝ }
     ensures { λ r. ⌜ r ≡ flagsIn (now (image .entry)) ⌝ }
 {
     Flags {
@@ -147,7 +149,7 @@ fn read_queue(image: &[u8], n: usize) -> [u8; 256]
 
 // Internal: how many places of the queue are used, at most n.
 fn read_used(image: &[u8], n: usize) -> usize
-    requires { ⌜ 192 ≤ length (now image) ⌝ }
+    requires { ⌜ imageSize 0 ≤ length (now image) ⌝ }
     ensures { λ r. ⌜ r ≡ Nat.min (field 4 4 (now (image .entry))) n ⌝ }
 {
     let used = get_u32(image, 4) as usize;
@@ -198,7 +200,7 @@ fn queue_matches(image: &[u8], n: usize, used: usize) -> bool
 
 // Internal: whether header and setup have these numbers.
 fn head_matches(image: &[u8], setup: Setup, used: usize, hand: Hand, flags: Flags) -> bool
-    requires { ⌜ (setup .slots ≤ 256) × (used ≤ 256) × (192 ≤ length (now image)) ⌝ }
+    requires { ⌜ (setup .slots ≤ 256) × (used ≤ 256) × (imageSize 0 ≤ length (now image)) ⌝ }
     ensures { λ r.
         ⌜ r ≡ (begins (words 4 (headerFor (setup .slots) used)) (now (image .entry))
         && begins (words 8 (setupFor setup hand (flags .started) (flags .armed)))
@@ -242,7 +244,7 @@ pub fn read_image(image: &[u8]) -> Stream
         ⌜ r ≡ cond (leb (setupIn (now (image .entry)) .slots) 256 && matches (now (image .entry)))
         (recordIn (now (image .entry))) noStream ⌝ }
 {
-    if image.len() < 192 {
+    if image.len() < LEAST_SIZE {
         return no_stream();
     }
     let n = get_u64(image, SETUP_AT) as usize;

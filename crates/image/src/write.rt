@@ -30,7 +30,7 @@ ghost use Rattle.image.specs.Reading.{setupAt, statesAt, queueAt, imageS
 
 // Internal: header and setup.
 fn write_head(setup: Setup, used: usize, hand: Hand, flags: Flags, image: &mut [u8])
-    requires { ⌜ (setup .slots ≤ 256) × (192 ≤ length (now image)) ⌝ }
+    requires { ⌜ (setup .slots ≤ 256) × (imageSize 0 ≤ length (now image)) ⌝ }
     ensures { λ _.
         ⌜ now (image .exit)
         ≡ store setupAt (words 8 (setupFor setup hand (flags .started) (flags .armed)))

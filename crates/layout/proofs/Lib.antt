@@ -1,4 +1,5 @@
 pub mod Refusals
+pub mod Frames
 pub mod Strides
 pub mod Addresses
 pub mod Limits

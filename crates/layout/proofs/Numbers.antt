@@ -35,4 +35,5 @@ setup-back s e b =
       «silence_byte» = byte-back (s .«silence_byte») b i;
       base = s .base;
       tagged = tag-back (s .tagged) i;
+      «frame_bytes» = s .«frame_bytes»;
     }

@@ -12,6 +12,7 @@ use Rattle.layout.specs.declared.Setup.{Setup}
 use Rattle.layout.specs.Layout.{largest, layoutOf, slotStride, dataStride, total}
 use Rattle.layout.specs.Opening.{layoutFor, totalOf}
 use Rattle.layout.specs.Places.{placesOf, Placed}
+use Rattle.layout.proofs.Frames.{frames-below, frames-some, capacity-below}
 use Rattle.layout.proofs.Strides.{stride, headers-even, base-up, stride-up}
 use Rattle.layout.proofs.Limits.{limited-small}
 use Rattle.layout.proofs.Admission.{Admissible, addressed}
@@ -32,7 +33,9 @@ placed s i a hb h =
     let n = s .slots in
     let p = s .«packets_per_urb» in
     let b = s .«packet_bytes» in
+    let f = s .«frame_bytes» in
     let z = a .limits .sizes in
+    let most = capacity-below p b f in
     let m = limited-small s (a .limits) in
     let g = stride p in
     let d = stride-up p b in
@@ -51,9 +54,12 @@ placed s i a hb h =
       few-packets = z .few;
       some-bytes = z .bytes;
       few-bytes = a .limits .bytes;
+      fill = refl;
+      small-fill = frames-below b f;
       capacity = refl;
-      some-capacity = mul-pos (z .packets) (z .bytes);
-      small-capacity = m .capacity;
+      some-capacity = mul-pos (z .packets) (frames-some b f (a .limits .some-frame) (a .limits .frame));
+      small-capacity = omega arith;
+      small-payload = m .capacity;
       small-total = m .all;
       addressed = addressed s a hb;
     }
@@ -70,7 +76,7 @@ unfolding placesOf layoutFor layoutOf
 payloads-ordered s i j h =
     let p = s .«packets_per_urb» in
     let b = s .«packet_bytes» in
-    omega (arith, apart i j (dataStride p b) h, stride-up p b)
+    omega (arith, apart i j (dataStride p b) h, stride-up p b, capacity-below p b (s .«frame_bytes»))
 
 -- What is ordered by the slots' numbers is one way round or the other for two different slots.
 either : (f g : ℕ → ℕ) → ((i j : ℕ) → i < j → f i ≤ g j) → (i j : ℕ) → (i ≡ j → ⊥) → (f i ≤ g j) ⊎ (f j ≤ g i)

@@ -1,11 +1,12 @@
--- The paper's section Layout, over unbounded numbers: n slots, p packets per URB, b bytes per packet.
+-- The paper's section Layout, over unbounded numbers: n slots, p packets per URB, b bytes per packet, and (request 2026-04) frames of f
+-- bytes.
 use Prim.Native.Nat.{ℕ, _+_, _-_, _*_, _/_, _^_, _≤_, _<_}
 use mathlib.Core.Bool.{Bool, false, _||_}
 use mathlib.Core.List.{List, [], _∷_, _++_}
 use mathlib.Core.Option.{Option, none, some}
 use lib.Dec.{ltb, eqb}
 use Rattle.error.specs.declared.Error.{Error}
-use Rattle.error.specs.declared.Error.the-variants.{TooFewSlots, ZeroSize, TooManyPackets, LayoutOverflow}
+use Rattle.error.specs.declared.Error.the-variants.{TooFewSlots, ZeroSize, TooManyPackets, LayoutOverflow, FrameSize}
 use Rattle.layout.specs.declared.RingLayout.{RingLayout}
 use Rattle.layout.specs.declared.Laid.{Laid}
 use Rattle.layout.specs.declared.Laid.the-variants.{Layout, Refused}
@@ -35,13 +36,17 @@ dataStride p b = raised 64 (p * b)
 unfoldable pub total : ℕ → ℕ → ℕ → ℕ
 total n p b = dataBase n p + n * dataStride p b
 
--- Capacity: p × b.
-abbrev pub capacity : ℕ → ℕ → ℕ
-capacity p b = p * b
+-- What commit fills a packet up to: the largest multiple of f not above b.
+unfoldable pub wholeFrames : ℕ → ℕ → ℕ
+wholeFrames b f = b / f * f
+
+-- Capacity: p times that.
+abbrev pub capacity : ℕ → ℕ → ℕ → ℕ
+capacity p b f = p * wholeFrames b f
 
 -- The layout; alignment 64.
-unfoldable pub layoutOf : ℕ → ℕ → ℕ → RingLayout
-layoutOf n p b =
+unfoldable pub layoutOf : ℕ → ℕ → ℕ → ℕ → RingLayout
+layoutOf n p b f =
     record {
       slots = n;
       «slot_stride» = slotStride p;
@@ -51,7 +56,7 @@ layoutOf n p b =
       «packets_per_urb» = p;
       «total_bytes» = total n p b;
       align = 64;
-      «slot_capacity» = capacity p b;
+      «slot_capacity» = capacity p b f;
     }
 
 -- Refusals 1, 2 and 3: n below 2; p or b zero; p above 128.
@@ -82,14 +87,19 @@ overflowing n p b =
     ∷ total n p b
     ∷ [])
 
+-- Refusal 33's test: f zero or above b.
+unfoldable pub badFrame : ℕ → ℕ → Bool
+badFrame b f = eqb f 0 || ltb b f
+
 -- The layout, or its refusal.
 unfoldable pub laid : Option Error → RingLayout → Laid
 laid none l = Layout l
 laid (some e) l = Refused e
 
--- What RingLayout::new answers: refused in the order 1, 2, 3, 4.
-unfoldable pub laidOut : ℕ → ℕ → ℕ → Laid
-laidOut n p b = laid (first (sizes n p b ++ (overflowing n p b, LayoutOverflow) ∷ [])) (layoutOf n p b)
+-- What RingLayout::new answers: refused in the order 1, 2, 3, 4, 33.
+unfoldable pub laidOut : ℕ → ℕ → ℕ → ℕ → Laid
+laidOut n p b f =
+    laid (first (sizes n p b ++ (overflowing n p b, LayoutOverflow) ∷ (badFrame b f, FrameSize) ∷ [])) (layoutOf n p b f)
 
 -- What refusals 1, 2 and 3 leave.
 pub record Sized (n p b : ℕ) : Type 0 where

@@ -1,5 +1,5 @@
 -- Opening's values but the block as a list of numbers, in the paper's order: n, p, b, endpoint, policy (0 Continue, 1 FillSilence, 2
--- Error), silence byte, base, tag (1 or 0).
+-- Error), silence byte, base, tag (1 or 0), f.
 use Prim.Native.Nat.{ℕ, _%_}
 use mathlib.Core.Bool.{cond}
 use mathlib.Core.List.{List, [], _∷_}
@@ -28,6 +28,7 @@ setupNumbers s =
     ∷ s .«silence_byte»
     ∷ s .base
     ∷ cond (s .tagged) 1 0
+    ∷ s .«frame_bytes»
     ∷ []
 
 -- What is missing is read as 0. Endpoint and silence byte are a byte each: of a larger number the lowest byte is read.
@@ -42,4 +43,5 @@ setupFrom numbers =
       «silence_byte» = getD numbers 5 0 % 256;
       base = getD numbers 6 0;
       tagged = eqb (getD numbers 7 0) 1;
+      «frame_bytes» = getD numbers 8 0;
     }

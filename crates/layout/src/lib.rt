@@ -3,8 +3,8 @@
 ghost use mathlib.Core.Path.{_≡_};
 ghost use mathlib.Core.Bool.{true};
 ghost use Prim.Native.Nat.{_≤_, _<_, _+_, _-_, _*_};
-ghost use Rattle.layout.specs.Layout.{raised, largest, slotStride, dataStride, overflowing};
-ghost use Rattle.layout.specs.Layout.{layoutOf, laidOut, total, sizes, Sized};
+ghost use Rattle.layout.specs.Layout.{raised, largest, slotStride, dataStride, overflowing, wholeFrames};
+ghost use Rattle.layout.specs.Layout.{layoutOf, laidOut, total, sizes, badFrame, Sized};
 ghost use Rattle.layout.specs.Tests.{tested, first};
 ghost use Rattle.layout.specs.Opening.{maskedOf, limit, badBase, limits, Limited, layoutFor, admissible};
 ghost use Rattle.layout.specs.Places.{Placed};
@@ -73,6 +73,21 @@ fn payload_stride(packets_per_urb: usize, packet_bytes: usize) -> usize
     align_up(packets_per_urb * packet_bytes, DATA_ALIGN)
 }
 
+// Internal: what commit fills a packet up to, a multiple of the frame size.
+fn whole_frames(packet_bytes: usize, frame_bytes: usize) -> usize
+    requires { ⌜ 0 < «frame_bytes» ⌝ }
+    ensures { λ r. ⌜ r ≡ wholeFrames «packet_bytes» «frame_bytes» ⌝ }
+{
+    packet_bytes / frame_bytes * frame_bytes
+}
+
+// Whether 33 refuses the frame size.
+fn bad_frame(packet_bytes: usize, frame_bytes: usize) -> bool
+    ensures { λ r. ⌜ r ≡ badFrame «packet_bytes» «frame_bytes» ⌝ }
+{
+    frame_bytes == 0 || frame_bytes > packet_bytes
+}
+
 // Refusals 1, 2 and 3.
 fn test_sizes(slots: usize, packets_per_urb: usize, packet_bytes: usize) -> Tested
     ensures { λ r. ⌜ r ≡ tested (first (sizes slots «packets_per_urb» «packet_bytes»)) ⌝ }
@@ -111,14 +126,20 @@ fn overflows(slots: usize, packets_per_urb: usize, packet_bytes: usize) -> bool
 
 impl RingLayout {
     // Internal: the layout of values that no refusal met.
-    fn of(slots: usize, packets_per_urb: usize, packet_bytes: usize) -> RingLayout
+    fn of(
+        slots: usize,
+        packets_per_urb: usize,
+        packet_bytes: usize,
+        frame_bytes: usize,
+    ) -> RingLayout
         requires { ⌜ Sized slots «packets_per_urb» «packet_bytes» ⌝ }
-        requires { ⌜ total slots «packets_per_urb» «packet_bytes» ≤ largest ⌝ }
-        ensures { λ r. ⌜ r ≡ layoutOf slots «packets_per_urb» «packet_bytes» ⌝ }
+        requires { ⌜ (total slots «packets_per_urb» «packet_bytes» ≤ largest) × (0 < «frame_bytes») ⌝ }
+        ensures { λ r. ⌜ r ≡ layoutOf slots «packets_per_urb» «packet_bytes» «frame_bytes» ⌝ }
     {
         let slot_stride = header_stride(packets_per_urb);
         let data_base = align_up(slots * slot_stride, DATA_ALIGN);
         let data_stride = payload_stride(packets_per_urb, packet_bytes);
+        let fill = whole_frames(packet_bytes, frame_bytes);
         RingLayout {
             slots,
             slot_stride,
@@ -128,12 +149,17 @@ impl RingLayout {
             packets_per_urb,
             total_bytes: data_base + slots * data_stride,
             align: DATA_ALIGN,
-            slot_capacity: packets_per_urb * packet_bytes,
+            slot_capacity: packets_per_urb * fill,
         }
     }
 
-    pub fn new(slots: usize, packets_per_urb: usize, packet_bytes: usize) -> Laid
-        ensures { λ r. ⌜ r ≡ laidOut slots «packets_per_urb» «packet_bytes» ⌝ }
+    pub fn new(
+        slots: usize,
+        packets_per_urb: usize,
+        packet_bytes: usize,
+        frame_bytes: usize,
+    ) -> Laid
+        ensures { λ r. ⌜ r ≡ laidOut slots «packets_per_urb» «packet_bytes» «frame_bytes» ⌝ }
     {
         match test_sizes(slots, packets_per_urb, packet_bytes) {
             Tested::Refused(e) => Laid::Refused(e),
@@ -141,7 +167,10 @@ impl RingLayout {
                 if overflows(slots, packets_per_urb, packet_bytes) {
                     return Laid::Refused(Error::LayoutOverflow);
                 }
-                Laid::Layout(RingLayout::of(slots, packets_per_urb, packet_bytes))
+                if bad_frame(packet_bytes, frame_bytes) {
+                    return Laid::Refused(Error::FrameSize);
+                }
+                Laid::Layout(RingLayout::of(slots, packets_per_urb, packet_bytes, frame_bytes))
             }
         }
     }
@@ -164,15 +193,17 @@ pub struct Setup {
     pub silence_byte: u8,
     pub tagged: bool,
     pub base: usize,
+    pub frame_bytes: usize,
 }
 
-// Where a slot's parts lie in the block, the bytes of its payload and its packets.
+// Where a slot's parts lie in the block, its capacity, its packets and what commit fills each of them up to.
 pub struct Places {
     pub header: usize,
     pub descs: usize,
     pub payload: usize,
     pub capacity: usize,
     pub packets: usize,
+    pub fill: usize,
 }
 
 // The part of an address that compares: the low 56 bits where addresses carry a tag, else all of it. On arm64 the top
@@ -203,7 +234,7 @@ fn bad_base(tagged: bool, base: usize, bytes: usize) -> bool
 }
 
 impl Setup {
-    // Refusals 1, 2, 3 and 5.
+    // Refusals 1, 2, 3, 5 and 33.
     pub fn test_limits(self) -> Tested
         ensures { λ r. ⌜ r ≡ tested (first (limits self)) ⌝ }
     {
@@ -212,6 +243,9 @@ impl Setup {
             Tested::Passed => {
                 if self.slots > MAX_SLOTS || self.packet_bytes > MAX_PACKET_BYTES {
                     return Tested::Refused(Error::TooLarge);
+                }
+                if bad_frame(self.packet_bytes, self.frame_bytes) {
+                    return Tested::Refused(Error::FrameSize);
                 }
                 Tested::Passed
             }
@@ -223,7 +257,12 @@ impl Setup {
         requires { ⌜ Limited self ⌝ }
         ensures { λ r. ⌜ r ≡ layoutFor self ⌝ }
     {
-        RingLayout::of(self.slots, self.packets_per_urb, self.packet_bytes)
+        RingLayout::of(
+            self.slots,
+            self.packets_per_urb,
+            self.packet_bytes,
+            self.frame_bytes,
+        )
     }
 
     // Whether opening would take these values with a block of the right length.
@@ -245,6 +284,7 @@ impl Setup {
         ensures { λ r. ⌜ Placed self i r ⌝ }
     {
         let layout = self.layout_of();
+        let fill = whole_frames(self.packet_bytes, self.frame_bytes);
         let header = i * layout.slot_stride;
         Places {
             header,
@@ -252,6 +292,7 @@ impl Setup {
             payload: layout.data_base + i * layout.data_stride,
             capacity: layout.slot_capacity,
             packets: layout.packets_per_urb,
+            fill,
         }
     }
 }

@@ -6,6 +6,7 @@ use Rattle.sys.specs.Bytes.{le, store}
 use Rattle.sys.specs.Header.{statusAt, bufferLengthAt, actualLengthAt, errorCountAt}
 use Rattle.sys.specs.Descriptor.{descBytes, packetOf}
 use Rattle.layout.specs.declared.Setup.{Setup}
+use Rattle.layout.specs.Layout.{wholeFrames}
 use Rattle.layout.specs.Opening.{capacityOf}
 use Rattle.layout.specs.Places.{placesOf}
 
@@ -14,14 +15,14 @@ unfoldable pub sum : List ℕ → ℕ
 sum [] = 0
 sum (x ∷ xs) = x + sum xs
 
--- commit gives each of p packets min(rest, b).
+-- commit gives each of p packets min(rest, most).
 unfoldable pub shares : ℕ → ℕ → ℕ → List ℕ
-shares zero b rest = []
-shares (suc p) b rest = min rest b ∷ shares p b (rest - b)
+shares zero most rest = []
+shares (suc p) most rest = min rest most ∷ shares p most (rest - most)
 
--- The lengths that commit gives the packets of a slot for that many bytes.
+-- The lengths that commit gives the packets of a slot for that many bytes: each is filled up to the largest multiple of f not above b.
 abbrev pub lengthsOf : Setup → ℕ → List ℕ
-lengthsOf s bytes = shares (s .«packets_per_urb») (s .«packet_bytes») bytes
+lengthsOf s bytes = shares (s .«packets_per_urb») (wholeFrames (s .«packet_bytes») (s .«frame_bytes»)) bytes
 
 -- Each descriptor gets length, actual 0, status 0.
 unfoldable pub descriptors : List ℕ → List ℕ

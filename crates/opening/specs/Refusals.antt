@@ -1,4 +1,4 @@
--- What opening refuses, by its values and the block's length: 1, 2, 3 and 5, then 6, then 7.
+-- What opening refuses, by its values and the block's length: 1, 2, 3, 5 and 33, then 6, then 7.
 use Prim.Native.Nat.{ℕ}
 use mathlib.Core.Bool.{not}
 use mathlib.Core.List.{List, [], _∷_, _++_}
@@ -15,7 +15,7 @@ use Rattle.layout.specs.Tests.{Test, first}
 unfoldable pub blockLength : Setup → ℕ → List Test
 blockLength s len = (not (eqb len (totalOf s)), Error.BlockLength) ∷ []
 
--- The first of 1, 2, 3, 5, 6, 7.
+-- The first of 1, 2, 3, 5, 33, 6, 7.
 unfoldable pub refusalOf : Setup → ℕ → Option Error
 refusalOf s len = first (limits s ++ (blockLength s len ++ baseAddress s))
 

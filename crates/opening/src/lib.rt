@@ -21,7 +21,7 @@ ghost use Rattle.opening.specs.Refusals.{opens as opensFor};
 ghost use Rattle.opening.specs.Opened.{openedStream, noSetup, noStream};
 ghost use Rattle.opening.specs.Open.{openedHeader, openedBlock, openOutcome};
 
-// What opening answers for a block of that length: its layout, or the first of refusals 1, 2, 3, 5, 6, 7.
+// What opening answers for a block of that length: its layout, or the first of refusals 1, 2, 3, 5, 33, 6, 7.
 pub fn opens(setup: Setup, block_len: usize) -> Laid
     ensures { λ r. ⌜ r ≡ opensFor setup «block_len» ⌝ }
 {
@@ -79,6 +79,7 @@ fn no_setup() -> Setup
         silence_byte: 0,
         base: 0,
         tagged: false,
+        frame_bytes: 0,
     }
 }
 
@@ -126,7 +127,7 @@ fn init_headers(setup: Setup, block: &mut [u8])
     }
 }
 
-// Opens a ring in the block, or refuses with 1, 2, 3, 5, 6 or 7 and leaves the block alone.
+// Opens a ring in the block, or refuses with 1, 2, 3, 5, 33, 6 or 7 and leaves the block alone.
 pub fn open(setup: Setup, block: &mut [u8]) -> Reply
     ensures { λ r.
         ⌜ (r .answer ≡ openOutcome setup (now (block .entry)) .answer)

@@ -9,7 +9,7 @@ use Rattle.sys.specs.Descriptor as Descriptor
 use Rattle.schedule.specs.Interval.{packetIntervalUs, intervalFrom}
 use Rattle.schedule.specs.Derive.{derived, derivedFrom}
 use Rattle.layout.specs.Tests.{first, passed}
-use Rattle.layout.specs.Layout.{raised, slotStride, dataBase, dataStride, total, layoutOf, sizes, anyAbove, overflowing, laid, laidOut}
+use Rattle.layout.specs.Layout.{raised, slotStride, dataBase, dataStride, total, wholeFrames, layoutOf, sizes, anyAbove, overflowing, badFrame, laid, laidOut}
 use Rattle.layout.specs.Numbers as Numbers
 use Rattle.layout.specs.Opening.{maskedOf, limit, layoutFor, totalOf, limits, badBase, baseAddress, admissible}
 use Rattle.layout.specs.Places.{placesOf}
@@ -41,7 +41,7 @@ use Rattle.proved_edges.specs.Edges.{Edges, eightCalls, sent, stoppedR, 
 
 pub edges : Edges
 unfolding
-    raised slotStride dataBase dataStride total layoutOf sizes anyAbove overflowing first passed laid laidOut maskedOf limit layoutFor totalOf limits badBase baseAddress admissible placesOf Numbers.policyFrom Numbers.setupFrom
+    raised slotStride dataBase dataStride total wholeFrames layoutOf sizes anyAbove overflowing badFrame first passed laid laidOut maskedOf limit layoutFor totalOf limits badBase baseAddress admissible placesOf Numbers.policyFrom Numbers.setupFrom
     packetIntervalUs intervalFrom derived derivedFrom
     Bytes.le Bytes.ofLe Bytes.store Bytes.laid Signed.signed Header.headerBytes Header.headerAt Descriptor.descBytes Descriptor.descAt
     openedHeader withHeaders openedBlock openedStream withState sound

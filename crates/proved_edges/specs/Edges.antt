@@ -44,22 +44,22 @@ pub record Refuses {A : Type 0} (refused : Error → A) (answer : A) (number : �
   pub is : answer ≡ refused error
   pub numbered : numberOf error ≡ number
 
--- R, at base 65,536: n, p, b, endpoint, policy, silence byte, base, tag.
+-- R, at base 65,536: n, p, b, endpoint, policy, silence byte, base, tag, f.
 abbrev pub R : Setup
-R = setupFrom (4 ∷ 8 ∷ 100 ∷ 1 ∷ 0 ∷ 0 ∷ 65536 ∷ 0 ∷ [])
+R = setupFrom (4 ∷ 8 ∷ 100 ∷ 1 ∷ 0 ∷ 0 ∷ 65536 ∷ 0 ∷ 1 ∷ [])
 
 -- Two slots, FillSilence.
 abbrev pub two : Setup
-two = setupFrom (2 ∷ 1 ∷ 192 ∷ 1 ∷ 1 ∷ 0 ∷ 65536 ∷ 0 ∷ [])
+two = setupFrom (2 ∷ 1 ∷ 192 ∷ 1 ∷ 1 ∷ 0 ∷ 65536 ∷ 0 ∷ 1 ∷ [])
 
--- On R: a commit of slot 0, which the first turn gave.
-abbrev pub committedOn : ℕ → Outcome
-committedOn bytes = made (commit bytes (openedBlock R)) (recordAfter (openedStream R) (turn (openedBlock R) ∷ []))
+-- On a ring: a commit of slot 0, which the first turn gave.
+abbrev pub committedOn : Setup → ℕ → Outcome
+committedOn s bytes = made (commit bytes (openedBlock s)) (recordAfter (openedStream s) (turn (openedBlock s) ∷ []))
 
--- It is taken, and leaves these lengths in the slot's descriptors.
-pub record Commits (bytes : ℕ) (lengths : List ℕ) : Type 0 where
-  pub answer : committedOn bytes .answer ≡ Answer.Submit 0
-  pub written : map (λ (d : IsoPacketDesc). d .length) (packetsAt 8 (placesOf R 0 .descs) (committedOn bytes .lent)) ≡ lengths
+-- It is taken, and leaves these lengths in the slot's eight descriptors.
+pub record Commits (s : Setup) (bytes : ℕ) (lengths : List ℕ) : Type 0 where
+  pub answer : committedOn s bytes .answer ≡ Answer.Submit 0
+  pub written : map (λ (d : IsoPacketDesc). d .length) (packetsAt 8 (placesOf s 0 .descs) (committedOn s bytes .lent)) ≡ lengths
 
 -- On R as opened: a notice of that address.
 abbrev pub noticeOn : ℕ → Answer
@@ -137,7 +137,7 @@ endpointOf size = record { address = 1; attributes = 1; «max_packet_size» = si
 pub record Edges : Type 0 where
   -- Layout (2,1,192): strides 72 and 192, data base 192, total 576.
   pub layout-2-1-192 :
-      laidOut 2 1 192
+      laidOut 2 1 192 1
       ≡ Laid.Layout
       (record {
         slots = 2;
@@ -152,7 +152,7 @@ pub record Edges : Type 0 where
       })
   -- (4,8,100), call it R: 152, 832, 640, 3968.
   pub layout-R :
-      laidOut 4 8 100
+      laidOut 4 8 100 1
       ≡ Laid.Layout
       (record {
         slots = 4;
@@ -167,7 +167,7 @@ pub record Edges : Type 0 where
       })
   -- (2,128,1): stride 1592, base 3200, total 3456.
   pub layout-2-128-1 :
-      laidOut 2 128 1
+      laidOut 2 128 1 1
       ≡ Laid.Layout
       (record {
         slots = 2;
@@ -181,12 +181,12 @@ pub record Edges : Type 0 where
         «slot_capacity» = 128;
       })
   -- 129 packets: 3.
-  pub packets-129 : Refuses Laid.Refused (laidOut 2 129 1) 3
+  pub packets-129 : Refuses Laid.Refused (laidOut 2 129 1 1) 3
   -- On R, commit 800: all 100; 801: 10; 250: 100, 100, 50, five 0; 0: zeros.
-  pub commit-800 : Commits 800 (100 ∷ 100 ∷ 100 ∷ 100 ∷ 100 ∷ 100 ∷ 100 ∷ 100 ∷ [])
-  pub commit-801 : Refuses Answer.Refused (committedOn 801 .answer) 10
-  pub commit-250 : Commits 250 (100 ∷ 100 ∷ 50 ∷ 0 ∷ 0 ∷ 0 ∷ 0 ∷ 0 ∷ [])
-  pub commit-0 : Commits 0 (0 ∷ 0 ∷ 0 ∷ 0 ∷ 0 ∷ 0 ∷ 0 ∷ 0 ∷ [])
+  pub commit-800 : Commits R 800 (100 ∷ 100 ∷ 100 ∷ 100 ∷ 100 ∷ 100 ∷ 100 ∷ 100 ∷ [])
+  pub commit-801 : Refuses Answer.Refused (committedOn R 801 .answer) 10
+  pub commit-250 : Commits R 250 (100 ∷ 100 ∷ 50 ∷ 0 ∷ 0 ∷ 0 ∷ 0 ∷ 0 ∷ [])
+  pub commit-0 : Commits R 0 (0 ∷ 0 ∷ 0 ∷ 0 ∷ 0 ∷ 0 ∷ 0 ∷ 0 ∷ [])
   -- R at base 65,536: address 65,688 names slot 1 (18 while that is Free);
   pub address-65688 : slotOfUrb R 65688 (openedBlock R) ≡ Found.Slot 1
   pub stray-65688 : Refuses Answer.Refused (noticeOn 65688) 18

@@ -5,7 +5,7 @@ use mathlib.Core.Bool.{cond}
 use mathlib.Core.List.{List, [], _∷_}
 use lib.Dec.{eqb}
 
--- number, name and text, in the order of the numbers
+-- number, name and text, in the order of the numbers; 32 is no refusal
 abbrev pub Refusal : Type 0
 Refusal = ℕ × String × String
 
@@ -46,6 +46,8 @@ refusals =
       "NotAnImage",
       "the image is too short or not that of a sound record; at opening: an unknown policy or tag, or a buffer too short",
     )
+    ∷ (32, "", "")
+    ∷ (33, "FrameSize", "no bytes a frame, or more than a packet has")
     ∷ []
 
 -- The row with that number.

@@ -1,5 +1,5 @@
-// The names and the texts of the refusals, one line a number; line 0 is empty, since 0 is no refusal.
-pub const NAMES: [u8; 407] = *b"\n\
+// The names and the texts of the refusals, one line a number; lines 0 and 32 are empty, since they are no refusals.
+pub const NAMES: [u8; 418] = *b"\n\
     TooFewSlots\n\
     ZeroSize\n\
     TooManyPackets\n\
@@ -31,9 +31,11 @@ pub const NAMES: [u8; 407] = *b"\n\
     PacketBytesTooLarge\n\
     InvalidEndpoint\n\
     NotAnImage\n\
+    \n\
+    FrameSize\n\
 ";
 
-pub const TEXTS: [u8; 1131] = *b"\n\
+pub const TEXTS: [u8; 1176] = *b"\n\
     fewer than 2 slots\n\
     no packets, or no bytes a packet\n\
     more than 128 packets a URB\n\
@@ -65,4 +67,6 @@ pub const TEXTS: [u8; 1131] = *b"\n\
     packet bytes above the packet size\n\
     the endpoint is not an OUT endpoint\n\
     the image is too short or not that of a sound record; at opening: an unknown policy or tag, or a buffer too short\n\
+    \n\
+    no bytes a frame, or more than a packet has\n\
 ";

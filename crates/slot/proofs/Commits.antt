@@ -1,5 +1,5 @@
 -- Laws of a commit and of silence: written at the slot's places they are what `committed` and `silenced` say, and silence keeps the block's length; lengths of at most
--- packet_bytes sum to at most the capacity. The places are the slot's by an equation, and each law rewrites by it. Assumes nothing.
+-- packet_bytes sum to at most p × b. The places are the slot's by an equation, and each law rewrites by it. Assumes nothing.
 use mathlib.Core.Path.{_≡_, sym, ap, _∙_}
 use mathlib.Core.Bool.{false}
 use mathlib.Core.List.{List}
@@ -14,7 +14,7 @@ use Rattle.layout.specs.declared.Places.{Places}
 use Rattle.layout.specs.declared.Setup.{Setup}
 use Rattle.layout.specs.Opening.{capacityOf}
 use Rattle.layout.specs.Places.{Placed}
-use Rattle.ledger.specs.Slot.{sum, shares, descriptors, headed, committed, silenced}
+use Rattle.ledger.specs.Slot.{sum, shares, lengthsOf, descriptors, headed, committed, silenced}
 use Rattle.layout.specs.Layout.{anyAbove}
 use Rattle.slot.proofs.PacketLengths.{sum-within, sum-shares}
 
@@ -37,11 +37,11 @@ silence-home a k byte vs l room e =
 
 module _ (s : Setup) (i : ℕ) (r : Places) (placed : Placed s i r) where
   pub capacity-is : r .capacity ≡ capacityOf s
-  capacity-is = placed .capacity ∙ ap (λ (n : ℕ). n * s .«packet_bytes») (placed .packets)
+  capacity-is = placed .capacity ∙ (λ k. placed .packets k * placed .fill k)
 
-  -- one length a packet and none above b: the sum is at most the capacity
-  pub sum-fits : (lengths : List ℕ) → length lengths ≡ s .«packets_per_urb» → anyAbove (s .«packet_bytes») lengths ≡ false → sum lengths ≤ r .capacity
-  sum-fits lengths e none = rw (capacity-is, ← e) (sum-within (s .«packet_bytes») lengths none)
+  -- one length a packet and none above b: the sum is at most p × b
+  pub sum-fits : (lengths : List ℕ) → length lengths ≡ s .«packets_per_urb» → anyAbove (s .«packet_bytes») lengths ≡ false → sum lengths ≤ s .«packets_per_urb» * s .«packet_bytes»
+  sum-fits lengths e none = rw (← e) (sum-within (s .«packet_bytes») lengths none)
 
   -- the header's four fields and then the descriptors
   pub commit-parts : (lengths block : List ℕ) (total : ℕ) → total ≡ sum lengths
@@ -53,11 +53,11 @@ module _ (s : Setup) (i : ℕ) (r : Places) (placed : Placed s i r) where
 
   -- with commit's shares
   pub shares-parts : (bytes : ℕ) (block : List ℕ) → bytes ≤ capacityOf s
-      → store (r .descs) (descriptors (shares (r .packets) (s .«packet_bytes») bytes)) (headed (r .header) bytes block)
-      ≡ committed s i (shares (s .«packets_per_urb») (s .«packet_bytes») bytes) block
+      → store (r .descs) (descriptors (shares (r .packets) (r .fill) bytes)) (headed (r .header) bytes block)
+      ≡ committed s i (lengthsOf s bytes) block
   shares-parts bytes block h =
-      rw (placed .packets)
-      (commit-parts (shares (s .«packets_per_urb») (s .«packet_bytes») bytes) block bytes (sym (sum-shares (s .«packets_per_urb») (s .«packet_bytes») bytes h)))
+      rw (placed .packets, placed .fill)
+      (commit-parts (lengthsOf s bytes) block bytes (sym (sum-shares _ _ bytes h)))
 
   -- the payload, given back with every byte the silence byte
   pub silence-parts : (vs block : List ℕ) → r .payload + r .capacity ≤ length block

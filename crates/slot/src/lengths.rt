@@ -99,8 +99,8 @@ fn write_lengths(block: &mut [u8], at: usize, lengths: &[usize], most: usize)
     }
 }
 
-// Internal: commits `bytes` bytes of slot i, at most its capacity: each packet gets the smaller of what is left and
-// packet_bytes.
+// Internal: commits `bytes` bytes of slot i, at most its capacity: each packet gets the smaller of what is left and the
+// whole frames that fit it.
 pub fn set_packet_lengths(setup: Setup, block: &mut [u8], i: usize, bytes: usize)
     requires { ⌜ (admissible setup ≡ true) × (i < setup .slots) × (length (now block) ≡ totalOf setup)
         × (bytes ≤ capacityOf setup) ⌝ }
@@ -108,7 +108,7 @@ pub fn set_packet_lengths(setup: Setup, block: &mut [u8], i: usize, bytes: usize
 {
     let at = setup.places(i);
     set_header(block, at.header, bytes);
-    write_shares(block, at.descs, at.packets, setup.packet_bytes, bytes)
+    write_shares(block, at.descs, at.packets, at.fill, bytes)
 }
 
 // Internal: commits slot i with these packet lengths, one a packet and none above packet_bytes.

@@ -15,12 +15,14 @@ pub extern "C" fn usbfs_iso_layout(
     slots: u64,
     packets_per_urb: u64,
     packet_bytes: u64,
+    frame_bytes: u64,
     out: &mut [u8],
 ) -> u32
     ensures { λ r.
-        ⌜ Figured (layoutFromC slots «packets_per_urb» «packet_bytes» (now (out .entry))) r (now (out .exit)) ⌝ }
+        ⌜ Figured (layoutFromC slots «packets_per_urb» «packet_bytes» «frame_bytes» (now (out .entry)))
+        r (now (out .exit)) ⌝ }
 {
-    layout_figures(slots, packets_per_urb, packet_bytes, out)
+    layout_figures(slots, packets_per_urb, packet_bytes, frame_bytes, out)
 }
 
 // The bytes of an image of so many slots, or 0 where no ring has so many.

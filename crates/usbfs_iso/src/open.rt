@@ -15,14 +15,15 @@ pub extern "C" fn usbfs_iso_open(
     silence_byte: u8,
     base: u64,
     tag: u64,
+    frame_bytes: u64,
     block: &mut [u8],
     image: &mut [u8],
     out: &mut [u8],
 ) -> u32
     ensures { λ r.
         ⌜ Returned (openFromC
-        (slots ∷ «packets_per_urb» ∷ «packet_bytes» ∷ endpoint ∷ policy ∷ «silence_byte» ∷ base ∷ tag ∷ [])
-        (now (block .entry)) (now (image .entry)) (now (out .entry))) r (now (image .exit)) (now (block .exit))
+        (slots ∷ «packets_per_urb» ∷ «packet_bytes» ∷ endpoint ∷ policy ∷ «silence_byte» ∷ base ∷ tag ∷ «frame_bytes»
+        ∷ []) (now (block .entry)) (now (image .entry)) (now (out .entry))) r (now (image .exit)) (now (block .exit))
         (now (out .exit)) ⌝ }
 {
     open_stream(
@@ -34,6 +35,7 @@ pub extern "C" fn usbfs_iso_open(
         silence_byte,
         base,
         tag,
+        frame_bytes,
         block,
         image,
         out,

@@ -19,24 +19,27 @@ const USAGE: &str = "\
 oracle compare --runs N [--seed S] [--block BYTES]    plays N runs on the Rust and on the library
 oracle compare --functions                            asks both for every input of the functions
 oracle spoil [--seed S] [--block BYTES]               spoils what the library gives: each must be noticed
-oracle record --runs N [--seed S] [--block BYTES]     writes N runs as text
+oracle record --runs N [--seed S] [--block BYTES]     writes N runs as text, with --frames in frames of 1 to b bytes
 oracle play                                           the paper's own player: reads runs, prints lines
 oracle wrong                                          prints the names of its deliberate mistakes
-With --paper [--wrong NAME] the paper's own player is compared instead. Blocks are at most BYTES long (524288).";
+With --paper [--wrong NAME] the paper's own player is compared instead, or plays with that mistake. Blocks are at most
+BYTES long (524288).";
 
 struct Options {
     runs: Runs,
     functions: bool,
+    frames: bool,
     paper: bool,
     wrong: Wrong,
 }
 
 fn options(mut words: impl Iterator<Item = String>) -> Option<Options> {
     let runs = Runs { count: 0, seed: 1, longest_block: BLOCK_LIMIT };
-    let mut o = Options { runs, functions: false, paper: false, wrong: Wrong::None };
+    let mut o = Options { runs, functions: false, frames: false, paper: false, wrong: Wrong::None };
     while let Some(word) = words.next() {
         match word.as_str() {
             "--functions" => o.functions = true,
+            "--frames" => o.frames = true,
             "--paper" => o.paper = true,
             "--runs" => o.runs.count = words.next()?.parse().ok()?,
             "--seed" => o.runs.seed = words.next()?.parse().ok()?,
@@ -67,30 +70,35 @@ fn compared(o: &Options, out: &mut impl Write) -> io::Result<bool> {
     compare::tell(&counts, out)
 }
 
-/// Writes the runs that it hears of.
+/// Writes the runs that it hears of; where a frame is chosen, in frames of that many bytes more than 1, modulo b.
 #[derive(Default)]
-struct Recorder(Writer);
+struct Recorder {
+    writer: Writer,
+    frame: u64,
+}
 
 impl Listener for Recorder {
     fn opened(&mut self, opening: &Opening, _told: &Told, _shown: &Shown, _block: &[u8]) {
-        self.0.run(opening);
+        self.writer.run(&Opening { frame: 1 + self.frame % opening.b, ..*opening });
     }
 
     fn called(&mut self, call: &Call, _told: &Told, _shown: &Shown, _block: &[u8]) {
-        self.0.call(call);
+        self.writer.call(call);
     }
 
     fn full(&mut self, _flags: [bool; 2], _totals: [u64; 8]) {}
 
     fn ended(&mut self) {
-        self.0.end();
-        print!("{}", std::mem::take(&mut self.0.text));
+        self.writer.end();
+        print!("{}", std::mem::take(&mut self.writer.text));
     }
 }
 
-fn recorded(runs: Runs) -> io::Result<bool> {
+fn recorded(runs: Runs, frames: bool) -> io::Result<bool> {
     for k in 0..runs.count {
-        compare::play(runs.seed.wrapping_add(k), runs.longest_block, Box::<Recorder>::default());
+        let seed = runs.seed.wrapping_add(k);
+        let frame = if frames { seed.wrapping_mul(7919) } else { 0 };
+        compare::play(seed, runs.longest_block, Box::new(Recorder { frame, ..Recorder::default() }));
     }
     Ok(true)
 }
@@ -106,7 +114,7 @@ fn main() -> ExitCode {
     let done = match command.as_str() {
         "compare" => compared(&o, &mut out),
         "spoil" => spoil::spoil_all(o.runs, &mut out),
-        "record" => recorded(o.runs),
+        "record" => recorded(o.runs, o.frames),
         "play" => io::read_to_string(stdin()).and_then(|text| paper::play(&text, o.wrong, &mut out)),
         "wrong" => Wrong::ALL.iter().try_for_each(|w| writeln!(out, "{}", w.0)).map(|()| true),
         _ => {

@@ -1,14 +1,14 @@
-//! The image of what a stream shows (request 2026-01; include/usbfs_iso.h).
+//! The image of what a stream shows (requests 2026-01 and 2026-04; include/usbfs_iso.h).
 
 use crate::{Opening, Shown};
 
 pub const SETUP_AT: usize = 24;
 /// Where started and armed stand.
-pub const FLAGS_AT: usize = 112;
-pub const STATES_AT: usize = 128;
+pub const FLAGS_AT: usize = 120;
+pub const STATES_AT: usize = 136;
 
 pub fn image_size(n: u64) -> u64 {
-    192 + 5 * n
+    200 + 5 * n
 }
 
 /// Flags and totals that are not shown are 0.
@@ -19,7 +19,7 @@ pub fn image_of(o: &Opening, shown: &Shown) -> Vec<u8> {
     for number in [n, queued, SETUP_AT as u64, STATES_AT as u64, STATES_AT as u64 + n, STATES_AT as u64 + 5 * n] {
         image.extend_from_slice(&(number as u32).to_le_bytes());
     }
-    for number in [n, o.p, o.b, o.endpoint, o.policy, o.silence, o.base, o.tagged] {
+    for number in [n, o.p, o.b, o.endpoint, o.policy, o.silence, o.base, o.tagged, o.frame] {
         image.extend_from_slice(&number.to_le_bytes());
     }
     for number in shown.hand.numbers() {

@@ -24,6 +24,8 @@ pub struct Opening {
     pub silence: u64,
     pub base: u64,
     pub tagged: u64,
+    /// The bytes of a frame.
+    pub frame: u64,
     pub block_len: u64,
     pub image_len: u64,
 }
@@ -52,7 +54,7 @@ impl Call {
 
 /// The C functions that a written question can ask: the name, and the most that each argument may be.
 const ASKED: [(&str, &[u64]); 3] = [
-    ("layout", &[u64::MAX, u64::MAX, u64::MAX]),
+    ("layout", &[u64::MAX, u64::MAX, u64::MAX, u64::MAX]),
     ("derive", &[WIDE, 255, u64::MAX, u64::MAX, WIDE, u64::MAX]),
     ("plan", &[WIDE, 255, 65_535, 255, u64::MAX, WIDE, u64::MAX]),
 ];
@@ -81,7 +83,7 @@ impl Writer {
     }
 
     pub fn run(&mut self, o: &Opening) {
-        let first = [RUN, o.n, o.p, o.b, o.endpoint, o.policy, o.silence, o.base, o.tagged];
+        let first = [RUN, o.n, o.p, o.b, o.endpoint, o.policy, o.silence, o.base, o.tagged, o.frame];
         self.line(&[&first[..], &[o.block_len, o.image_len]].concat());
     }
 
@@ -159,6 +161,7 @@ impl<'a> Reader<'a> {
             silence: self.at_most(255)?,
             base: self.number()?,
             tagged: self.number()?,
+            frame: self.number()?,
             block_len: self.at_most(BLOCK_LIMIT)?,
             image_len: self.at_most(IMAGE_ROOM)?,
         })

@@ -17,7 +17,7 @@ pub struct Shown {
 }
 
 /// How many numbers a question has: the function, then its arguments, the rest 0.
-pub const FUNCTION_NUMBERS: usize = 13;
+pub const FUNCTION_NUMBERS: usize = 15;
 
 /// A question to a function beside the calls.
 pub type Question = [u64; FUNCTION_NUMBERS];

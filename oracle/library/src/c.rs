@@ -1,7 +1,14 @@
 //! The functions of include/usbfs_iso.h, with a slice as its pointer and its length.
 
 extern "C" {
-    pub fn usbfs_iso_layout(slots: u64, packets_per_urb: u64, packet_bytes: u64, out: *mut u64, out_len: usize) -> u32;
+    pub fn usbfs_iso_layout(
+        slots: u64,
+        packets_per_urb: u64,
+        packet_bytes: u64,
+        frame_bytes: u64,
+        out: *mut u64,
+        out_len: usize,
+    ) -> u32;
     pub fn usbfs_iso_open(
         slots: u64,
         packets_per_urb: u64,
@@ -11,6 +18,7 @@ extern "C" {
         silence_byte: u8,
         base: u64,
         tag: u64,
+        frame_bytes: u64,
         block: *mut u8,
         block_len: usize,
         image: *mut u8,

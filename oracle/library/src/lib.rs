@@ -44,6 +44,7 @@ impl Side for Library {
                 o.silence as u8,
                 o.base,
                 o.tagged,
+                o.frame,
                 self.block.as_mut_ptr(),
                 self.block.len(),
                 self.image.as_mut_ptr(),

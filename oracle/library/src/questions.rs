@@ -68,6 +68,7 @@ fn from_errno(errno: u64, context: u64, bytes: u64) -> Option<Figures> {
         b: 100,
         endpoint: 1,
         base: 65_536,
+        frame: 1,
         block_len: 3968,
         image_len: image_size(4),
         ..Opening::default()
@@ -87,7 +88,7 @@ pub(crate) fn ask(q: &Question) -> Option<Figures> {
     let [_, a, b, third, d, ..] = *q;
     match q[0] {
         // SAFETY: as in `derive`.
-        function::LAYOUT => Some(figures(6, |out, len| unsafe { c::usbfs_iso_layout(a, b, third, out, len) })),
+        function::LAYOUT => Some(figures(6, |out, len| unsafe { c::usbfs_iso_layout(a, b, third, d, out, len) })),
         function::PACKET_INTERVAL_US => Some(only(0, derive(a, b, 1, (2, 0), 1))),
         function::BYTES_PER_INTERVAL => match plan(2, (1, a, 1), (2, 0), 1) {
             Err((23, _)) => Some(Ok(vec![Some(0)])),

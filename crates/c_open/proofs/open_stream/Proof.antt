@@ -67,6 +67,7 @@ returns-3 c =
       «silence_byte» = silence i;
       base = a .base;
       tagged = eqb (a .tag) 1;
+      «frame_bytes» = a .frame-bytes;
     })
     (o .open-in .ensures)
 

@@ -1,4 +1,4 @@
--- `commit::slot_capacity` meets its contract: accepted values are within the limits, and their layout has p × b as its capacity.
+-- `commit::slot_capacity` meets its contract: accepted values are within the limits, and their layout has the capacity.
 -- Assumes nothing.
 use Rattle.layout.specs.Layout.{layoutOf}
 use Rattle.layout.specs.Opening.{layoutFor}

@@ -2,6 +2,8 @@
 
 use form::Opening;
 
+use super::wrong::Wrong;
+
 const STATUS: usize = 4;
 const BUFFER_LENGTH: usize = 24;
 const ACTUAL_LENGTH: usize = 28;
@@ -17,11 +19,23 @@ pub struct Layout {
     pub data_base: u64,
     pub data_stride: u64,
     pub total: u64,
+    /// How far commit fills a packet: the largest multiple of the frame size not above b.
+    pub fill: u64,
+    /// p times that.
     pub capacity: u64,
 }
 
-/// Refused in order: 1 n below 2; 2 p or b zero; 3 p above 128; 4 anything above 2^64 - 1.
-pub fn layout(n: u64, p: u64, b: u64) -> Result<Layout, u64> {
+/// 33: the frame size is zero or above b.
+pub fn refuses_frame(f: u64, b: u64, wrong: Wrong) -> bool {
+    match wrong {
+        Wrong::FrameOfAPacketRefused => f == 0 || f >= b,
+        Wrong::LongFrameTaken => f == 0,
+        _ => f == 0 || f > b,
+    }
+}
+
+/// Refused in order: 1 n below 2; 2 p or b zero; 3 p above 128; 4 anything above 2^64 - 1; 33.
+pub fn layout(n: u64, p: u64, b: u64, f: u64, wrong: Wrong) -> Result<Layout, u64> {
     if n < 2 {
         return Err(1);
     }
@@ -33,12 +47,24 @@ pub fn layout(n: u64, p: u64, b: u64) -> Result<Layout, u64> {
     }
     let raised = |v: u64, to: u64| v.checked_next_multiple_of(to).ok_or(4u64);
     let times = |v: u64, w: u64| v.checked_mul(w).ok_or(4u64);
+    let no_frame = refuses_frame(f, b, wrong);
+    if no_frame && wrong == Wrong::FrameSizeBeforeOverflow {
+        return Err(33);
+    }
     let stride = raised(56 + 12 * p, 8)?;
     let data_base = raised(times(n, stride)?, 64)?;
-    let capacity = times(p, b)?;
-    let data_stride = raised(capacity, 64)?;
+    let mut payload = times(p, b)?;
+    if wrong == Wrong::StrideOfTheCapacity && !no_frame {
+        payload = p * (b / f * f);
+    }
+    let data_stride = raised(payload, 64)?;
     let total = data_base.checked_add(times(n, data_stride)?).ok_or(4u64)?;
-    Ok(Layout { stride, data_base, data_stride, total, capacity })
+    if no_frame {
+        return Err(33);
+    }
+    let fill = b / f * f;
+    let capacity = if wrong == Wrong::CapacityRoundedOnce { p * b / f * f } else { p * fill };
+    Ok(Layout { stride, data_base, data_stride, total, fill, capacity })
 }
 
 /// A block and where things lie in it.
@@ -66,7 +92,9 @@ impl Block<'_> {
     }
 
     /// The block becomes zero, then each header gets its fields.
-    pub fn open(&mut self, o: &Opening) {
+    pub fn open(&mut self, o: &Opening, wrong: Wrong) {
+        let payload = wrong == Wrong::OpeningLengthOfThePayload;
+        let length = if payload { o.p * o.b } else { self.layout.capacity };
         self.bytes.fill(0);
         for i in 0..o.n {
             let at = self.header(i);
@@ -74,7 +102,7 @@ impl Block<'_> {
             self.put(at + 8, 2);
             let buffer = o.base + self.layout.data_base + i * self.layout.data_stride;
             self.put8(at + 16, buffer);
-            self.put(at + BUFFER_LENGTH, self.layout.capacity as u32);
+            self.put(at + BUFFER_LENGTH, length as u32);
             self.put(at + 36, o.p as u32);
             self.put8(at + COOKIE, i);
         }

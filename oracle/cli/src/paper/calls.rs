@@ -7,9 +7,9 @@ use super::ledger::{masked, total, Ledger, Mark};
 use super::wrong::Wrong;
 
 /// Done, or the answer of a refusal.
-type Outcome = Result<Answer, Answer>;
+pub type Outcome = Result<Answer, Answer>;
 
-fn refused(number: u64) -> Answer {
+pub fn refused(number: u64) -> Answer {
     Answer::Refused(number, None)
 }
 
@@ -55,7 +55,7 @@ impl Ledger {
     }
 
     /// The hand's slot is returned, Idle.
-    fn put_back(&mut self, i: u64, answer: Answer) -> Answer {
+    pub fn put_back(&mut self, i: u64, answer: Answer) -> Answer {
         self.hand = Hand::Idle;
         self.give(i);
         answer
@@ -90,77 +90,6 @@ impl Ledger {
         }
     }
 
-    fn silence_front(&mut self, left: u64, block: &mut Block) -> Answer {
-        let Some(i) = self.queue.pop_front() else {
-            self.hand = Hand::Idle;
-            return Answer::Nothing;
-        };
-        let mut bytes = self.layout.capacity;
-        if self.wrong == Wrong::SilenceFillsTheStride {
-            bytes = self.layout.data_stride;
-        }
-        block.silence(i, bytes, self.opening.silence as u8);
-        self.write_lengths(i, &self.shares(self.layout.capacity), block);
-        self.hand = Hand::Silent(i, if self.wrong == Wrong::OneSilentBuffer { 0 } else { left });
-        Answer::Submit(i)
-    }
-
-    /// Each packet gets min(rest, b).
-    fn shares(&self, bytes: u64) -> Vec<u64> {
-        let mut rest = bytes;
-        let share = |_| {
-            let length = rest.min(self.opening.b);
-            rest -= length;
-            length
-        };
-        (0..self.opening.p).map(share).collect()
-    }
-
-    fn write_lengths(&self, i: u64, lengths: &[u64], block: &mut Block) {
-        let keep = match self.wrong {
-            Wrong::CommitKeepsStatus => Some(Block::KEEP_STATUS),
-            Wrong::CommitKeepsBufferLength => Some(Block::KEEP_BUFFER_LENGTH),
-            _ => None,
-        };
-        block.commit(i, lengths, keep);
-    }
-
-    /// The slot is returned, Idle (Slot's Drop).
-    fn refuse_commit(&mut self, i: u64, number: u64) -> Answer {
-        match self.wrong {
-            Wrong::RefusedCommitToTheFront => {
-                self.hand = Hand::Idle;
-                self.queue.push_front(i);
-                refused(number)
-            }
-            Wrong::RefusedCommitKeptInHand => refused(number),
-            _ => self.put_back(i, refused(number)),
-        }
-    }
-
-    fn commit(&mut self, i: u64, bytes: u64, block: &mut Block) -> Outcome {
-        if bytes > self.layout.capacity {
-            return Err(self.refuse_commit(i, 10));
-        }
-        self.write_lengths(i, &self.shares(bytes), block);
-        self.hand = Hand::Sending(i);
-        Ok(Answer::Submit(i))
-    }
-
-    fn commit_packets(&mut self, i: u64, lengths: &[u64], block: &mut Block) -> Outcome {
-        let miscounted = lengths.len() as u64 != self.opening.p;
-        let too_long = lengths.iter().any(|&l| l > self.opening.b);
-        if too_long && (!miscounted || self.wrong == Wrong::LongPacketBeforeCount) {
-            return Err(self.refuse_commit(i, 12));
-        }
-        if miscounted {
-            return Err(self.refuse_commit(i, 11));
-        }
-        self.write_lengths(i, lengths, block);
-        self.hand = Hand::Sending(i);
-        Ok(Answer::Submit(i))
-    }
-
     fn accepted(&mut self, block: &mut Block) -> Outcome {
         let (i, left) = match self.hand {
             Hand::Sending(i) => (i, None),
@@ -189,7 +118,10 @@ impl Ledger {
         let (Hand::Sending(i) | Hand::Silent(i, _)) = self.hand else {
             return Err(refused(9));
         };
-        let memory = self.opening.n * self.opening.p * self.opening.b;
+        let mut memory = self.opening.n * self.opening.p * self.opening.b;
+        if self.wrong == Wrong::MemoryOfTheCapacity {
+            memory = self.opening.n * self.layout.capacity;
+        }
         Err(self.put_back(i, from_errno(errno, Some(memory))))
     }
 

@@ -1,6 +1,6 @@
 //! Layout, schedule, descriptor and errno.
 
-use form::{function, Figures, Question, BLOCK_LIMIT};
+use form::{function, Figures, Question, BLOCK_LIMIT, FUNCTION_NUMBERS};
 
 use super::block::layout;
 use super::calls::from_errno;
@@ -11,11 +11,7 @@ pub fn ask(q: &Question, wrong: Wrong) -> Figures {
     let [_, a, b, c, d, ..] = *q;
     let refuse = |number| (number, 0);
     match q[0] {
-        function::LAYOUT => numbers(
-            layout(a, b, c)
-                .map(|l| vec![l.stride, l.data_base, l.data_stride, l.total, 64, l.capacity])
-                .map_err(refuse),
-        ),
+        function::LAYOUT => numbers(laid_out([a, b, c, d], wrong).map_err(refuse)),
         function::FROM_RAW => numbers(Ok(vec![speed(a)])),
         function::FROM_DEVICE_PROBE => numbers(Ok(vec![if a == 9 { 5 } else { 2 + b }])),
         function::PACKET_INTERVAL_US => numbers(interval(a, b, wrong).map(|us| vec![us]).map_err(refuse)),
@@ -34,23 +30,33 @@ pub fn ask(q: &Question, wrong: Wrong) -> Figures {
     }
 }
 
+/// A layout's numbers, of n, p, b and the frame size.
+fn laid_out([n, p, b, f]: [u64; 4], wrong: Wrong) -> Result<Vec<u64>, u64> {
+    let l = layout(n, p, b, f, wrong)?;
+    Ok(vec![l.stride, l.data_base, l.data_stride, l.total, 64, l.capacity])
+}
+
 /// A question as it is written down (docs/RUNS.md): the name of a C function, and its arguments.
-pub fn ask_c(name: &str, arguments: &[u64]) -> Result<Vec<u64>, u64> {
-    let four = |schedule: Figures| schedule.map(|all| all[..4].iter().flatten().copied().collect());
+pub fn ask_c(name: &str, arguments: &[u64], wrong: Wrong) -> Result<Vec<u64>, u64> {
+    let all = |numbers: Vec<Option<u64>>| numbers.into_iter().flatten().collect::<Vec<u64>>();
+    let four = |schedule: Figures| schedule.map(|numbers| all(numbers[..4].to_vec()));
     let depth_of = |urbs: u64, us: u64| if urbs == 0 { [1, us] } else { [0, urbs] };
+    let mut q: Question = [0; FUNCTION_NUMBERS];
+    let mut asked = |function: u64, arguments: &[u64]| {
+        q[0] = function;
+        q[1..1 + arguments.len()].copy_from_slice(arguments);
+        ask(&q, wrong)
+    };
     let figures = match (name, arguments) {
         ("derive", &[speed, interval, bytes, urbs, us, packets]) => {
             let [kind, depth] = depth_of(urbs, us);
-            four(ask(&[function::DERIVE, speed, interval, bytes, kind, depth, 1, packets, 0, 0, 0, 0, 0], Wrong::None))
+            four(asked(function::DERIVE, &[speed, interval, bytes, kind, depth, 1, packets]))
         }
         ("plan", &[speed, attributes, size, interval, urbs, us, packets]) => {
             let [kind, depth] = depth_of(urbs, us);
-            let q = [function::PLAN, speed, attributes, size, interval, kind, depth, 1, packets, 0, 0, 0, 0];
-            four(ask(&q, Wrong::None))
+            four(asked(function::PLAN, &[speed, attributes, size, interval, kind, depth, 1, packets]))
         }
-        (_, arguments) => layout(arguments[0], arguments[1], arguments[2])
-            .map(|l| vec![l.stride, l.data_base, l.data_stride, l.total, 64, l.capacity])
-            .map_err(|number| (number, 0)),
+        (_, arguments) => asked(function::LAYOUT, arguments).map(all),
     };
     figures.map_err(|(number, _)| number)
 }
@@ -149,6 +155,7 @@ fn derive(
 }
 
 /// 27 interval unknown, 28 packet size unknown, 29 packet bytes above it, 30 endpoint bit 7 set, derive's, opening's.
+/// An absent frame size is 1.
 fn build(q: &Question, wrong: Wrong) -> Result<[u64; 3], u64> {
     let given = |mark: u64, value: u64| (mark == 1).then_some(value);
     let interval = given(q[2], q[3]).ok_or(27u64)?;
@@ -166,8 +173,10 @@ fn build(q: &Question, wrong: Wrong) -> Result<[u64; 3], u64> {
     if urbs > 256 || bytes > 49_152 {
         return Err(5);
     }
+    let default = if wrong == Wrong::BuilderFrameDefault0 { 0 } else { 1 };
+    let frame = given(q[13], q[14]).unwrap_or(default);
     // The block has the length that the ring takes, but no more than a block here can have.
-    if layout(urbs, packets, bytes)?.total > BLOCK_LIMIT {
+    if layout(urbs, packets, bytes, frame, wrong)?.total > BLOCK_LIMIT {
         return Err(6);
     }
     Ok([urbs, packets, bytes])

@@ -4,11 +4,27 @@ use std::collections::VecDeque;
 
 use form::{image_of, image_size, Hand, Opening, FLAGS_AT, SETUP_AT, STATES_AT};
 
+use super::block::{refuses_frame, Layout};
 use super::ledger::{admitted, Ledger, Mark};
 use super::wrong::Wrong;
 
+const TAG_AT: usize = SETUP_AT + 56;
+const FRAME_AT: usize = SETUP_AT + 64;
+
 fn number(bytes: &[u8], at: usize, width: usize) -> u64 {
     bytes[at..at + width].iter().rev().fold(0, |value, &byte| value << 8 | u64::from(byte))
+}
+
+/// Opening's values in a setup, and the layout that they have. None where opening would refuse them.
+fn opening(setup: &[u64], wrong: Wrong) -> Option<(Opening, Layout)> {
+    let [n, p, b, endpoint, policy, silence, base, tagged, frame] = setup[..9].try_into().expect("nine");
+    let opening = Opening { n, p, b, endpoint, policy, silence, base, tagged, frame, ..Opening::default() };
+    let mut judged = opening;
+    if wrong == Wrong::FrameSizeNotIn8 && refuses_frame(frame, b, wrong) {
+        judged.frame = 1;
+    }
+    let layout = admitted(&judged, None, wrong).ok()?;
+    (endpoint <= 255 && policy <= 2 && silence <= 255 && tagged <= 1).then_some((opening, layout))
 }
 
 /// The ledger whose image the bytes begin with. None where they are not the image of a sound record: 31.
@@ -16,16 +32,15 @@ pub fn read(bytes: &[u8], wrong: Wrong) -> Option<Ledger> {
     if (bytes.len() as u64) < image_size(2) {
         return None;
     }
-    let setup: Vec<u64> = (0..13).map(|k| number(bytes, SETUP_AT + 8 * k, 8)).collect();
-    let [n, p, b, endpoint, policy, silence, base, tagged] = setup[..8].try_into().expect("eight");
-    let opening = Opening { n, p, b, endpoint, policy, silence, base, tagged, ..Opening::default() };
-    let layout = admitted(&opening, None).ok()?;
-    if endpoint > 255 || policy > 2 || silence > 255 || tagged > 1 || (bytes.len() as u64) < image_size(n) {
+    let setup: Vec<u64> = (0..14).map(|k| number(bytes, SETUP_AT + 8 * k, 8)).collect();
+    let (opening, layout) = opening(&setup, wrong)?;
+    let n = opening.n;
+    if (bytes.len() as u64) < image_size(n) {
         return None;
     }
-    let hand = hand(setup[8], setup[9], setup[10], n)?;
+    let hand = hand(setup[9], setup[10], setup[11], n)?;
     let queued = number(bytes, 4, 4);
-    if queued > n || setup[11] > 1 || setup[12] > 1 {
+    if queued > n || setup[12] > 1 || setup[13] > 1 {
         return None;
     }
     let counters_at = STATES_AT + 5 * n as usize;
@@ -39,8 +54,8 @@ pub fn read(bytes: &[u8], wrong: Wrong) -> Option<Ledger> {
         hand,
         queue: queue(bytes, n, queued)?,
         marks: marks(&bytes[STATES_AT..STATES_AT + n as usize], hand)?,
-        started: setup[11] == 1,
-        armed: setup[12] == 1,
+        started: setup[12] == 1,
+        armed: setup[13] == 1,
         totals,
         wrong,
     };
@@ -111,7 +126,9 @@ pub fn write(ledger: &Ledger, bytes: &mut [u8]) {
     match ledger.wrong {
         Wrong::ImageUnusedPlacesKept => image[unused.clone()].copy_from_slice(&bytes[unused]),
         Wrong::ImageQueueLengthOfTheRing => image[4..8].copy_from_slice(&(n as u32).to_le_bytes()),
-        Wrong::ImageTagLost => image[SETUP_AT + 56] = 0,
+        Wrong::ImageTagLost => image[TAG_AT] = 0,
+        Wrong::ImageFrameBeforeTheTag => image[TAG_AT..FRAME_AT + 8].rotate_left(8),
+        Wrong::ImageFrameLost => image[FRAME_AT..FRAME_AT + 8].copy_from_slice(&1u64.to_le_bytes()),
         // Where an image stood before.
         Wrong::ImageFlagsKept if bytes[..4] == image[..4] => {
             image[FLAGS_AT..STATES_AT].copy_from_slice(&bytes[FLAGS_AT..STATES_AT]);

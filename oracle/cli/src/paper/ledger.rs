@@ -4,7 +4,7 @@ use std::collections::VecDeque;
 
 use form::{Hand, Opening, Shown};
 
-use super::block::{layout, Block, Layout};
+use super::block::{layout, refuses_frame, Block, Layout};
 use super::wrong::Wrong;
 
 #[derive(Clone, Copy, PartialEq)]
@@ -47,32 +47,42 @@ pub fn masked(address: u64, tagged: u64) -> u64 {
     }
 }
 
+/// The order of opening's refusals behind 1, 2 and 3.
+fn order(wrong: Wrong) -> [u64; 4] {
+    match wrong {
+        Wrong::FrameSizeBeforeTooLarge => [33, 5, 6, 7],
+        Wrong::FrameSizeAfterTheBlock => [5, 6, 33, 7],
+        _ => [5, 33, 6, 7],
+    }
+}
+
 /// The layout of values that opening takes, with a block of that length if one is given; else the refusal's number.
-pub fn admitted(o: &Opening, block_len: Option<u64>) -> Result<Layout, u64> {
-    let laid = layout(o.n, o.p, o.b);
-    if let Err(number @ 1..=3) = laid {
-        return Err(number);
-    }
-    if o.n > 256 || o.b > 49_152 {
-        return Err(5);
-    }
-    let layout = laid?;
-    if block_len.is_some_and(|length| length != layout.total) {
-        return Err(6);
-    }
+pub fn admitted(o: &Opening, block_len: Option<u64>, wrong: Wrong) -> Result<Layout, u64> {
+    // Where things lie does not depend on the frame size.
+    let total = match layout(o.n, o.p, o.b, 1, wrong) {
+        Err(number @ 1..=3) => return Err(number),
+        // A layout that is too large has 5.
+        laid => laid.map_or(0, |l| l.total),
+    };
     let room: u128 = if o.tagged == 1 { 1 << 56 } else { 1 << 64 };
-    let end = u128::from(masked(o.base, o.tagged)) + u128::from(layout.total);
-    if o.base % 64 != 0 || end > room {
-        return Err(7);
+    let end = u128::from(masked(o.base, o.tagged)) + u128::from(total);
+    let met = |number: &u64| match number {
+        5 => o.n > 256 || o.b > 49_152,
+        33 => refuses_frame(o.frame, o.b, wrong),
+        6 => block_len.is_some_and(|length| length != total),
+        _ => o.base % 64 != 0 || end > room,
+    };
+    match order(wrong).into_iter().find(met) {
+        Some(number) => Err(number),
+        None => layout(o.n, o.p, o.b, o.frame, wrong),
     }
-    Ok(layout)
 }
 
 impl Ledger {
-    /// Refused in order, block untouched: 1, 2, 3; 5; 6; 7.
+    /// Refused in order, block untouched: 1, 2, 3; 5; 33; 6; 7.
     pub fn open(o: &Opening, bytes: &mut [u8], wrong: Wrong) -> Result<Ledger, u64> {
-        let layout = admitted(o, Some(bytes.len() as u64))?;
-        Block { bytes, layout, p: o.p }.open(o);
+        let layout = admitted(o, Some(bytes.len() as u64), wrong)?;
+        Block { bytes, layout, p: o.p }.open(o, wrong);
         Ok(Ledger {
             opening: *o,
             layout,

@@ -2,6 +2,7 @@
 
 mod block;
 mod calls;
+mod commits;
 mod functions;
 mod image;
 mod ledger;

@@ -30,13 +30,13 @@ pub fn play(text: &str, wrong: Wrong, to: &mut impl Write) -> io::Result<bool> {
 fn one_item(reader: &mut Reader, wrong: Wrong, lines: &mut Vec<u8>) -> Result<bool, Bad> {
     match reader.item()? {
         None => return Ok(false),
-        Some(Item::Question(name, arguments)) => question(name, &arguments, lines),
+        Some(Item::Question(name, arguments)) => question(name, &arguments, wrong, lines),
         Some(Item::Run(opening)) => one_run(reader, &opening, wrong, lines)?,
     }
     Ok(true)
 }
 
-fn question(name: &str, arguments: &[u64], lines: &mut Vec<u8>) {
+fn question(name: &str, arguments: &[u64], wrong: Wrong, lines: &mut Vec<u8>) {
     let push_all = |numbers: &[u64], lines: &mut Vec<u8>| {
         for &number in numbers {
             lines.push(b' ');
@@ -46,7 +46,7 @@ fn question(name: &str, arguments: &[u64], lines: &mut Vec<u8>) {
     lines.extend_from_slice(name.as_bytes());
     push_all(arguments, lines);
     lines.extend_from_slice(b" =");
-    match ask_c(name, arguments) {
+    match ask_c(name, arguments, wrong) {
         Ok(numbers) => push_all(&numbers, lines),
         Err(number) => {
             lines.push(b' ');

@@ -1,4 +1,4 @@
-//! Deliberate mistakes, each of which the comparison must catch.
+//! Deliberate mistakes, each of which the comparison or, at frame sizes other than 1, the stored lines must catch.
 
 #[derive(Clone, Copy, PartialEq)]
 pub enum Wrong {
@@ -35,6 +35,24 @@ pub enum Wrong {
     ReservedTimesThree,
     DepthRoundedDown,
     EndpointBeforeBytes,
+    CapacityRoundedOnce,
+    CommitLimitOfThePayload,
+    CommitSplitsFrames,
+    RaggedCommitRefused,
+    CommitPacketsByTheFrame,
+    CommitPacketsHas10,
+    SilenceFillsThePayload,
+    SilenceSendsThePayload,
+    OpeningLengthOfThePayload,
+    MemoryOfTheCapacity,
+    StrideOfTheCapacity,
+    FrameSizeBeforeTooLarge,
+    FrameSizeAfterTheBlock,
+    FrameSizeBeforeOverflow,
+    FrameSizeNotIn8,
+    FrameOfAPacketRefused,
+    LongFrameTaken,
+    BuilderFrameDefault0,
     ImageQueueFromTheBack,
     ImageArmedAsStarted,
     ImageDiscardingAsInFlight,
@@ -43,13 +61,15 @@ pub enum Wrong {
     ImageUnusedPlacesKept,
     ImageQueueLengthOfTheRing,
     ImageTagLost,
+    ImageFrameBeforeTheTag,
+    ImageFrameLost,
     ImageFlagsKept,
     ImageWrittenPastItsEnd,
 }
 
 impl Wrong {
     /// Each mistake by its name.
-    pub const ALL: [(&'static str, Wrong); 42] = [
+    pub const ALL: [(&'static str, Wrong); 62] = [
         ("refused-commit-to-the-front", Wrong::RefusedCommitToTheFront),
         ("refused-commit-kept-in-hand", Wrong::RefusedCommitKeptInHand),
         ("start-clears-armed", Wrong::StartClearsArmed),
@@ -82,6 +102,24 @@ impl Wrong {
         ("reserved-times-three", Wrong::ReservedTimesThree),
         ("depth-rounded-down", Wrong::DepthRoundedDown),
         ("endpoint-before-bytes", Wrong::EndpointBeforeBytes),
+        ("capacity-rounded-once", Wrong::CapacityRoundedOnce),
+        ("commit-limit-of-the-payload", Wrong::CommitLimitOfThePayload),
+        ("commit-splits-frames", Wrong::CommitSplitsFrames),
+        ("ragged-commit-refused", Wrong::RaggedCommitRefused),
+        ("commit-packets-by-the-frame", Wrong::CommitPacketsByTheFrame),
+        ("commit-packets-has-10", Wrong::CommitPacketsHas10),
+        ("silence-fills-the-payload", Wrong::SilenceFillsThePayload),
+        ("silence-sends-the-payload", Wrong::SilenceSendsThePayload),
+        ("opening-length-of-the-payload", Wrong::OpeningLengthOfThePayload),
+        ("memory-of-the-capacity", Wrong::MemoryOfTheCapacity),
+        ("stride-of-the-capacity", Wrong::StrideOfTheCapacity),
+        ("frame-size-before-too-large", Wrong::FrameSizeBeforeTooLarge),
+        ("frame-size-after-the-block", Wrong::FrameSizeAfterTheBlock),
+        ("frame-size-before-overflow", Wrong::FrameSizeBeforeOverflow),
+        ("frame-size-not-in-8", Wrong::FrameSizeNotIn8),
+        ("frame-of-a-packet-refused", Wrong::FrameOfAPacketRefused),
+        ("long-frame-taken", Wrong::LongFrameTaken),
+        ("builder-frame-default-0", Wrong::BuilderFrameDefault0),
         ("image-queue-from-the-back", Wrong::ImageQueueFromTheBack),
         ("image-armed-as-started", Wrong::ImageArmedAsStarted),
         ("image-discarding-as-in-flight", Wrong::ImageDiscardingAsInFlight),
@@ -90,6 +128,8 @@ impl Wrong {
         ("image-unused-places-kept", Wrong::ImageUnusedPlacesKept),
         ("image-queue-length-of-the-ring", Wrong::ImageQueueLengthOfTheRing),
         ("image-tag-lost", Wrong::ImageTagLost),
+        ("image-frame-before-the-tag", Wrong::ImageFrameBeforeTheTag),
+        ("image-frame-lost", Wrong::ImageFrameLost),
         ("image-flags-kept", Wrong::ImageFlagsKept),
         ("image-written-past-its-end", Wrong::ImageWrittenPastItsEnd),
     ];

@@ -33,6 +33,7 @@ returns c =
     ∷ s .«silence_byte»
     ∷ s .base
     ∷ (tagged ∙ tag (s .tagged)) i
+    ∷ s .«frame_bytes»
     ∷ (hand i ++ (started i ∷ armed i ∷ []))
 
 pub setup-numbers-spec : {M : Type 1} → statement M

@@ -13,17 +13,26 @@ use Rattle.image.proofs.read.read_setup.Tie as tie
 returns : tie.Need-returns
 unfolding setupIn setupFrom numbersAt table
 returns c =
-    let policy = c .before .before .before .before .before .before .before .policy-from .ensures ∙ ap policyFrom (c .before .before .before .before .before .before .before .before .get-u64 .ensures) in
+    let tag = c .before in
+    let base = tag .before in
+    let silence = base .before in
+    let endpoint = silence .before in
+    let bytes = endpoint .before in
+    let packets = bytes .before in
+    let slots = packets .before in
+    let named = slots .before in
+    let policy = named .policy-from .ensures ∙ ap policyFrom (named .before .get-u64 .ensures) in
     λ i.
     record {
-      slots = c .before .before .before .before .before .before .get-u642 .ensures i;
-      «packets_per_urb» = c .before .before .before .before .before .get-u643 .ensures i;
-      «packet_bytes» = c .before .before .before .before .get-u644 .ensures i;
-      endpoint = c .before .before .before .get-u645 .ensures i % 256;
+      slots = slots .get-u642 .ensures i;
+      «packets_per_urb» = packets .get-u643 .ensures i;
+      «packet_bytes» = bytes .get-u644 .ensures i;
+      endpoint = endpoint .get-u645 .ensures i % 256;
       underrun = policy i;
-      «silence_byte» = c .before .before .get-u646 .ensures i % 256;
-      base = c .before .get-u647 .ensures i;
-      tagged = eqb (c .get-u648 .ensures i) 1;
+      «silence_byte» = silence .get-u646 .ensures i % 256;
+      base = base .get-u647 .ensures i;
+      tagged = eqb (tag .get-u648 .ensures i) 1;
+      «frame_bytes» = c .get-u649 .ensures i;
     }
 
 pub read-setup-spec : {M : Type 1} → statement M
@@ -44,6 +53,8 @@ read-setup-spec =
     (λ c. search needs)
     (λ c κs. search needs)
     (λ c. search needs)
+    (λ c. search needs)
+    (λ c κs. search needs)
     (λ c. search needs)
     (λ c κs. search needs)
     (λ c. search needs)

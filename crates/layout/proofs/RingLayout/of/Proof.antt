@@ -5,6 +5,7 @@ use mathlib.Core.Path.{_≡_, ap, _∙_}
 use borrow.Author.Needs.{needs}
 use native.Mathlib.Omega.{arith}
 use Rattle.layout.specs.Layout.{raised, dataBase, total, layoutOf}
+use Rattle.layout.proofs.Frames.{capacity-below}
 use Rattle.layout.proofs.Strides.{Steps, steps}
 use Rattle.layout.proofs.RingLayout.of.Statement.{statement}
 use Rattle.layout.proofs.RingLayout.of.Tie as tie
@@ -25,20 +26,40 @@ align-up-requires c κs = rw (c .header-stride .ensures) (omega (arith, all (c .
 payload-stride-requires : tie.Need-payload-stride-requires
 payload-stride-requires c κs = omega (arith, all (c .before .before))
 
-mul-t7 : tie.Need-mul-t7
-mul-t7 c = rw (c .payload-stride .ensures) (omega (arith, all (c .before .before .before)))
-
-add-t8 : tie.Need-add-t8
-add-t8 c = rw (based (c .before), c .payload-stride .ensures) (omega (arith, all (c .before .before .before)))
-
 mul-t9 : tie.Need-mul-t9
-mul-t9 c = omega (arith, all (c .before .before .before))
+mul-t9 c = rw (c .before .payload-stride .ensures) (omega (arith, all (c .before .before .before .before)))
+
+add-t10 : tie.Need-add-t10
+add-t10 c =
+    rw (based (c .before .before), c .before .payload-stride .ensures)
+    (omega (arith, all (c .before .before .before .before)))
+
+mul-t11 : tie.Need-mul-t11
+mul-t11 c =
+    let a = c .before .before .before .before .args in
+    rw (c .whole-frames .ensures)
+    (omega (arith, all (c .before .before .before .before), capacity-below (a .packets-per-urb) (a .packet-bytes) (a .frame-bytes)))
 
 returns : tie.Need-returns
 unfolding layoutOf total
-returns c = rw (based (c .before), c .payload-stride .ensures, c .before .before .header-stride .ensures)
+returns c =
+    rw (
+      based (c .before .before),
+      c .before .payload-stride .ensures,
+      c .before .before .before .header-stride .ensures,
+      c .whole-frames .ensures,
+    )
 
 pub of-spec : {M : Type 1} → statement M
 of-spec =
     tie.close
-    (tie.spec (λ c κs. search needs) mul-align-up align-up-requires payload-stride-requires mul-t7 add-t8 mul-t9 returns)
+    (tie.spec
+    (λ c κs. search needs)
+    mul-align-up
+    align-up-requires
+    payload-stride-requires
+    (λ c κs. search needs)
+    mul-t9
+    add-t10
+    mul-t11
+    returns)

@@ -7,7 +7,7 @@ use Rattle.layout.proofs.Setup.layout_of.Statement.{statement}
 use Rattle.layout.proofs.Setup.layout_of.Tie as tie
 
 of-requires : tie.Need-of-requires
-of-requires c κs = (c .pre .sizes, omega (arith, limited-small _ (c .pre)))
+of-requires c κs = (c .pre .sizes, (omega (arith, limited-small _ (c .pre)), c .pre .some-frame))
 
 returns : tie.Need-returns
 unfolding layoutFor

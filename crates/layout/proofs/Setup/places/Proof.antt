@@ -13,25 +13,36 @@ known c = placed _ _ (admits _ (c .pre .0)) (omega arith) (c .pre .1)
 layout-of-requires : tie.Need-layout-of-requires
 layout-of-requires c κs = admits _ (c .pre .0) .limits
 
+whole-frames-requires : tie.Need-whole-frames-requires
+whole-frames-requires c κs = admits _ (c .before .pre .0) .limits .some-frame
+
 mul-header : tie.Need-mul-header
 unfolding placesOf
-mul-header c = rw (c .before .layout-of .ensures) (omega (arith, known (c .before .before)))
+mul-header c =
+    rw (c .before .before .layout-of .ensures) (omega (arith, known (c .before .before .before)))
 
-add-t5 : tie.Need-add-t5
+add-t6 : tie.Need-add-t6
 unfolding placesOf
-add-t5 c = rw (c .before .layout-of .ensures) (omega (arith, known (c .before .before)))
+add-t6 c =
+    rw (c .before .before .layout-of .ensures) (omega (arith, known (c .before .before .before)))
 
-mul-t6 : tie.Need-mul-t6
+mul-t7 : tie.Need-mul-t7
 unfolding placesOf
-mul-t6 c = rw (c .before .before .layout-of .ensures) (omega (arith, known (c .before .before .before)))
+mul-t7 c =
+    rw (c .before .before .before .layout-of .ensures) (omega (arith, known (c .before .before .before .before)))
 
-add-t7 : tie.Need-add-t7
+add-t8 : tie.Need-add-t8
 unfolding placesOf
-add-t7 c = rw (c .before .before .before .layout-of .ensures) (omega (arith, known (c .before .before .before .before)))
+add-t8 c =
+    rw (c .before .before .before .before .layout-of .ensures)
+    (omega (arith, known (c .before .before .before .before .before)))
 
 returns : tie.Need-returns
 unfolding placesOf
-returns c = rw (c .before .before .before .layout-of .ensures) (known (c .before .before .before .before))
+returns c =
+    let fill = c .before .before .before in
+    rw (fill .before .layout-of .ensures, fill .whole-frames .ensures) (known (fill .before .before))
 
 pub places-spec : {M : Type 1} → statement M
-places-spec = tie.close (tie.spec layout-of-requires mul-header add-t5 mul-t6 add-t7 returns)
+places-spec =
+    tie.close (tie.spec layout-of-requires whole-frames-requires mul-header add-t6 mul-t7 add-t8 returns)

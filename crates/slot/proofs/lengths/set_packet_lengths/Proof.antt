@@ -18,7 +18,7 @@ returns c =
     let s = start .args .setup in
     let r = placed .places .result in
     written .write-shares .ensures
-    ∙ ap (store (r .descs) (descriptors (shares (r .packets) (s .«packet_bytes») (start .args .bytes)))) (head .set-header .ensures)
+    ∙ ap (store (r .descs) (descriptors (shares (r .packets) (r .fill) (start .args .bytes)))) (head .set-header .ensures)
     ∙ shares-parts s (start .args .i) r (placed .places .ensures) (start .args .bytes) (start .args .block .now) (start .pre .3)
 
 pub set-packet-lengths-spec : {M : Type 1} → statement M

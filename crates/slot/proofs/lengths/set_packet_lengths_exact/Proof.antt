@@ -1,7 +1,7 @@
 -- `slot::lengths::set_packet_lengths_exact` meets its contract: the header and then the descriptors are written at the slot's places, with the lengths' own sum.
--- The lengths are at most packet_bytes each, so their sum is at most the capacity. Assumes nothing.
+-- The lengths are at most packet_bytes each, so their sum is at most p × b, which fits 32 bits. Assumes nothing.
 use mathlib.Core.Path.{ap, _∙_}
-use Prim.Native.Nat.{_≤_}
+use Prim.Native.Nat.{_^_, _<_}
 use native.Mathlib.Omega.{arith}
 use borrow.Author.Needs.{needs}
 use Rattle.sys.specs.Bytes.{store}
@@ -10,10 +10,11 @@ use Rattle.slot.proofs.Commits.{sum-fits, commit-parts}
 use Rattle.slot.proofs.lengths.set_packet_lengths_exact.Statement.{statement}
 use Rattle.slot.proofs.lengths.set_packet_lengths_exact.Tie as tie
 
-fits : (c : tie.After-places) → sum (c .before .before .before .args .lengths .now) ≤ c .places .result .capacity
+fits : (c : tie.After-places) → sum (c .before .before .before .args .lengths .now) < 2 ^ 32
 fits c =
     let start = c .before .before .before in
-    sum-fits _ _ _ (c .places .ensures) (start .args .lengths .now) (start .pre .1 .0) (start .pre .1 .1)
+    let placed = c .places .ensures in
+    omega (arith, sum-fits _ _ _ placed (start .args .lengths .now) (start .pre .1 .0) (start .pre .1 .1), placed .small-payload)
 
 write-lengths-requires : tie.Need-write-lengths-requires
 write-lengths-requires c κs =

@@ -5,7 +5,7 @@ use Prim.Native.Nat.{ℕ}
 use native.Mathlib.Omega.{arith}
 use borrow.Author.Needs.{needs}
 use lib.ListN.{length}
-use Rattle.ledger.specs.Slot.{shares, committed, silenced}
+use Rattle.ledger.specs.Slot.{lengthsOf, committed, silenced}
 use Rattle.slot.proofs.Commits.{capacity-is, silence-parts, length-silenced}
 use Rattle.slot.proofs.silence.fill_silence.Statement.{statement}
 use Rattle.slot.proofs.silence.fill_silence.Tie as tie
@@ -31,8 +31,8 @@ returns c =
     let slot = placed .places .ensures in
     let block = start .args .block .now in
     done .set-packet-lengths .ensures
-    ∙ ap (committed s i (shares (s .«packets_per_urb») (s .«packet_bytes») (placed .places .result .capacity))) (silence-parts _ _ _ slot (filled .fill .last .0) block (omega arith) (filled .fill .ensures))
-    ∙ ap (λ (n : ℕ). committed s i (shares (s .«packets_per_urb») (s .«packet_bytes») n) (silenced s i block)) (capacity-is _ _ _ slot)
+    ∙ ap (committed s i (lengthsOf s (placed .places .result .capacity))) (silence-parts _ _ _ slot (filled .fill .last .0) block (omega arith) (filled .fill .ensures))
+    ∙ ap (λ (n : ℕ). committed s i (lengthsOf s n) (silenced s i block)) (capacity-is _ _ _ slot)
 
 pub fill-silence-spec : {M : Type 1} → statement M
 fill-silence-spec =
