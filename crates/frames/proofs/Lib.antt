@@ -1,0 +1,4 @@
+pub mod Packets
+pub mod Refused
+pub mod Before
+pub mod Edges

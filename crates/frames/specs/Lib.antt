@@ -1,0 +1,4 @@
+pub mod Packets
+pub mod Before
+pub mod Refused
+pub mod Edges
