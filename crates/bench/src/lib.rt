@@ -1,6 +1,8 @@
 // The hot cycle by value, for the benchmark (docs/PERFORMANCE.md): reaped of the oldest slot, reaped Nothing, turn,
 // commit_full, submitted Accepted. It is a host's loop, each call made at one place of the code. A Rust program links
 // it and takes the time. These functions promise that they are safe and end.
+#![tactic(auto)]
+
 use commit::commit_full;
 use layout::{Setup, Underrun};
 use opening::open;

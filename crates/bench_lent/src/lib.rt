@@ -1,5 +1,7 @@
 // The hot cycle on a record that is lent to each call, for the benchmark (docs/PERFORMANCE.md). These functions promise
 // that they are safe and end.
+#![tactic(auto)]
+
 use bench::{address_at, came_back, next, reply, setup};
 use lent::local;
 use opening::open;

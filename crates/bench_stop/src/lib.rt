@@ -1,5 +1,7 @@
 // The call stop by value, for the benchmark (docs/PERFORMANCE.md). It is made on one record again and again, and finds
 // the same slots each time. These functions promise that they are safe and end.
+#![tactic(auto)]
+
 use bench::{address_at, rounds, setup};
 use control::stop;
 use opening::open;

@@ -1,4 +1,6 @@
 // IsoOutBuilder of iso.rs: a stream's schedule and ring from its endpoint's facts. The bus speed is always given.
+#![tactic(auto)]
+
 ghost use Rattle.std.specs.Prelude.{◌≡◌};
 ghost use Rattle.error.specs.declared.Error.{Error};
 ghost use Rattle.schedule.specs.declared.Derived.{Derived};
@@ -14,21 +16,21 @@ use schedule::{Depth, Derived, Packets, Schedule, Speed};
 use stream::{Answer, Stream};
 
 // The endpoint's b_interval, where it is known.
-#[derive(Drop)]
+#[derive(Clone, Copy)]
 pub enum BInterval {
     Unknown,
     Given(u8),
 }
 
 // The endpoint's payload bytes per service interval, where they are known.
-#[derive(Drop)]
+#[derive(Clone, Copy)]
 pub enum PacketSize {
     Unknown,
     Bytes(usize),
 }
 
 // The bytes written per packet, where the caller gives them.
-#[derive(Drop)]
+#[derive(Clone, Copy)]
 pub enum PacketBytes {
     Absent,
     Given(usize),
@@ -36,13 +38,13 @@ pub enum PacketBytes {
 
 // What build gives back: the schedule of the stream that was opened, or why none was; and the stream's record, of no
 // slots where build refused.
-#[derive(Drop)]
+#[derive(Clone, Copy)]
 pub struct Built {
     pub answer: Derived,
     pub stream: Stream,
 }
 
-#[derive(Drop)]
+#[derive(Clone, Copy)]
 pub struct IsoOutBuilder {
     pub endpoint: u8,
     pub max_packet_size: PacketSize,

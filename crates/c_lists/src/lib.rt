@@ -1,5 +1,7 @@
 // The calls whose lists C lends as bytes: 8-byte numbers, a ragged end not counting. A list of any length is taken; as
 // many of its numbers as can matter are read into a list of our own.
+#![tactic(auto)]
+
 ghost use Rattle.std.specs.Prelude.{◌≡◌, ◌*◌, ◌≤◌, length, replicate};
 ghost use Prim.Native.Nat;
 ghost use Rattle.sys.specs.Bytes.{store};

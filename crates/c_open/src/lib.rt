@@ -1,4 +1,6 @@
 // Opening by numbers that C hands over.
+#![tactic(auto)]
+
 ghost use Rattle.std.specs.Prelude.{[], ◌∷◌, length};
 ghost use Rattle.opening.specs.Refusals.{opens};
 ghost use Rattle.from_c.specs.Told.{Returned};

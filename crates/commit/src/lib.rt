@@ -1,4 +1,6 @@
 // commit, commit_full, commit_packets: the slot in hand gets its packet lengths, and the host is to submit it.
+#![tactic(auto)]
+
 ghost use Rattle.std.specs.Prelude.{true, [], ◌≡◌, length};
 ghost use Rattle.layout.specs.Opening.{admissible, total_of, capacity_of};
 ghost use Rattle.stream.specs.Sound.{sound};

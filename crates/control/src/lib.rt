@@ -1,4 +1,6 @@
 // The calls that are lent no block and take no reply of the kernel: give_back, start, stop, finish.
+#![tactic(auto)]
+
 mod listed;
 
 ghost use Rattle.std.specs.Prelude.{[], ◌≡◌};

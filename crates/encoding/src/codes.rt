@@ -13,7 +13,7 @@ use mask::Mask;
 use ring::{Ring, SlotStates};
 
 // A word of each mask, and how many of its 64 slots are out.
-#[derive(Drop)]
+#[derive(Clone, Copy)]
 struct StateWords {
     filling: u64,
     in_flight: u64,

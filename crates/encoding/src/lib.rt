@@ -1,4 +1,6 @@
 // How numbers and slots' states stand in bytes: numbers of one width one after the other, states a byte each.
+#![tactic(auto)]
+
 mod codes;
 mod words;
 

@@ -1,10 +1,12 @@
 // The refusals of the port, one case for each number of the paper, with the values that it carries.
 // Names are those of the Rust's error.rs where it has the case.
+#![tactic(auto)]
+
 ghost use Rattle.std.specs.Prelude.{◌≡◌};
 ghost use Rattle.error.specs.Number.{number_of, value_of};
 ghost use Rattle.error.specs.Errno.{from_errno};
 
-#[derive(Drop)]
+#[derive(Clone, Copy)]
 pub enum Error {
     // Layout and opening: 1 to 7.
     TooFewSlots,
@@ -54,7 +56,7 @@ pub enum Error {
 }
 
 // Which call an errno came from: a submission, with the ring's payload bytes, or another.
-#[derive(Drop)]
+#[derive(Clone, Copy)]
 pub enum ErrnoContext {
     Submit { bytes: u64 },
     Other,
@@ -62,6 +64,7 @@ pub enum ErrnoContext {
 
 impl Error {
     // The refusal that a kernel's errno means.
+    #[tactic(auto, unfolding(crate::specs::Errno::from_errno, crate::specs::Errno::out_of_memory))]
     pub fn from_errno(errno: u32, context: ErrnoContext) -> Error
         ensures { result ≡ from_errno errno context }
     {

@@ -1,4 +1,6 @@
 // What a C host asks beside the calls: layout, image size, schedules, and the next stretch of sound.
+#![tactic(auto)]
+
 mod stretches;
 
 ghost use Rattle.std.specs.Prelude.{◌≡◌};

@@ -1,5 +1,7 @@
 // What C is told by the functions that it calls (crates/usbfs_iso has them): eight numbers in a lent slice, and the
 // number that a call returns.
+#![tactic(auto)]
+
 ghost use Rattle.std.specs.Prelude.{◌≡◌, [], ◌∷◌, map};
 ghost use Rattle.stream.specs.Numbers.{numbers_of, figures_of};
 ghost use Rattle.encoding.specs.Words.{places, written};

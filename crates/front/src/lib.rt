@@ -1,4 +1,6 @@
 // The front slot of the queue, for turn and for the chain of silent slots: taken for the host, or silenced.
+#![tactic(auto)]
+
 ghost use Rattle.std.specs.Prelude.{true, [], ◌≡◌, ℕ, ◌<◌, length};
 ghost use Rattle.layout.specs.Opening.{admissible, total_of};
 ghost use Rattle.ring.specs.Slots.{holds};

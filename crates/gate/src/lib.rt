@@ -1,5 +1,7 @@
 // What every call refuses first, once for all ten, by its test of the record; and how a call ends that refuses or
 // returns the slot in hand.
+#![tactic(auto)]
+
 mod ends;
 
 ghost use Rattle.std.specs.Prelude.{true, ◌≡◌};
@@ -13,21 +15,21 @@ use ring::Hand;
 use stream::Stream;
 
 // What a call is lent: a block of that many bytes, or none.
-#[derive(Drop)]
+#[derive(Clone, Copy)]
 pub enum Lent {
     Block(usize),
     Nothing,
 }
 
 // Whether a call's first tests passed.
-#[derive(Drop)]
+#[derive(Clone, Copy)]
 pub enum Gate {
     Open,
     Refused(Error),
 }
 
 // The slot in hand, or why the call is refused.
-#[derive(Drop)]
+#[derive(Clone, Copy)]
 pub enum InHand {
     Slot(usize),
     Refused(Error),

@@ -62,7 +62,7 @@ fn policy_number(policy: Underrun) -> u64
 }
 
 // A hand's three numbers.
-#[derive(Drop)]
+#[derive(Clone, Copy)]
 pub struct HandNumbers {
     pub kind: u64,
     pub slot: u64,

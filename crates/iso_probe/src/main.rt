@@ -1,5 +1,7 @@
 // Derives and prints the schedule of the shop's ring (Full speed, b_interval 1, 192 bytes a packet, 8 packets a URB,
 // 8 URBs), and how many URBs a depth of 0 gives.
+#![tactic(auto)]
+
 use error::Error;
 use libc::STDOUT_FILENO;
 use schedule::{Depth, Derived, Packets, Product, Schedule, Speed};

@@ -1,5 +1,7 @@
 // What opening's values determine: the ring's layout, which of them opening refuses, and the places of a slot in
 // the block.
+#![tactic(auto)]
+
 ghost use Rattle.std.specs.Prelude.{◌≡◌, true, ◌≤◌, ◌<◌, ◌+◌, ◌-◌, ◌*◌};
 ghost use Rattle.layout.specs.Layout.{raised, largest, slot_stride, data_stride, overflowing, whole_frames};
 ghost use Rattle.layout.specs.Layout.{layout_of, laid_out, total, sizes, bad_frame, Sized};
@@ -24,7 +26,7 @@ const MAX_PACKET_BYTES: usize = 49152;
 const TAG: usize = 0x0100_0000_0000_0000;
 
 // Where everything lies in the block.
-#[derive(Drop)]
+#[derive(Clone, Copy)]
 pub struct RingLayout {
     pub slots: usize,
     pub slot_stride: usize,
@@ -37,14 +39,14 @@ pub struct RingLayout {
     pub slot_capacity: usize,
 }
 
-#[derive(Drop)]
+#[derive(Clone, Copy)]
 pub enum Laid {
     Layout(RingLayout),
     Refused(Error),
 }
 
 // Whether a run of tests let the values pass.
-#[derive(Drop)]
+#[derive(Clone, Copy)]
 pub enum Tested {
     Passed,
     Refused(Error),
@@ -178,7 +180,7 @@ impl RingLayout {
 }
 
 // What turn does when all buffers came back while the stream was running.
-#[derive(Drop)]
+#[derive(Clone, Copy)]
 pub enum Underrun {
     Continue,
     FillSilence,
@@ -186,7 +188,7 @@ pub enum Underrun {
 }
 
 // Opening's values but the block, with no padding behind the last (see stream::Stream).
-#[derive(Drop)]
+#[derive(Clone, Copy)]
 pub struct Setup {
     pub slots: usize,
     pub packets_per_urb: usize,
@@ -200,7 +202,7 @@ pub struct Setup {
 }
 
 // Where a slot's parts lie in the block, its capacity, its packets and what commit fills each of them up to.
-#[derive(Drop)]
+#[derive(Clone, Copy)]
 pub struct Places {
     pub header: usize,
     pub descs: usize,

@@ -1,1 +1,2 @@
 // No code: the ledger that the calls' contracts cite (specs/), and its laws (proofs/).
+#![tactic(auto)]

@@ -1,5 +1,7 @@
 // The ten calls on a record that is lent: each takes the record out, makes the call by value and stores the record
 // that it gives.
+#![tactic(auto)]
+
 pub mod local;
 
 ghost use Rattle.std.specs.Prelude.{[]};

@@ -1,4 +1,6 @@
 // Sets of slots as masks: 256 places as four words of bits.
+#![tactic(auto)]
+
 mod list;
 
 ghost use Rattle.std.specs.Prelude.{false, not, ◌&&◌, ◌||◌, ◌≡◌, ◌<◌, eqb, ltb};
@@ -8,7 +10,7 @@ ghost use Rattle.mask.specs.Masks.{member, table_word, mask_of, is_empty};
 pub use list::MaskList;
 
 // 256 places as four words of bits: place i is bit i % 64 of word i / 64.
-#[derive(Drop)]
+#[derive(Clone, Copy)]
 pub struct Mask {
     pub a: u64,
     pub b: u64,

@@ -6,7 +6,7 @@ ghost use Rattle.mask.specs.Masks.{member, list_of, with_more};
 use crate::Mask;
 
 // A list of places: the first count of `places`, and zeros behind them.
-#[derive(Drop)]
+#[derive(Clone, Copy)]
 pub struct MaskList {
     pub places: [u8; 256],
     pub count: usize,

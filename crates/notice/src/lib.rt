@@ -1,5 +1,7 @@
 // What submitted and reaped read from the block, each header through a view of it. A call has tested the setup, the
 // block's length and, where it names a slot, its number before it asks.
+#![tactic(auto)]
+
 ghost use Rattle.std.specs.Prelude.{◌≡◌, true, ◌-◌, ◌*◌, ◌≤◌, ◌<◌, length};
 ghost use Rattle.sys.specs.Descriptor.{desc_size};
 ghost use Rattle.layout.specs.Opening.{admissible, total_of};
@@ -13,7 +15,7 @@ use sys::IsoPacketDesc;
 use sys::field::non_negative;
 
 // The two sums over a slot's packets.
-#[derive(Drop)]
+#[derive(Clone, Copy)]
 struct Sums {
     pub requested: u64,
     pub short: u64,

@@ -1,4 +1,6 @@
 // Opening a ring: the record of a fresh stream, and its block with the headers of all slots.
+#![tactic(auto)]
+
 ghost use Rattle.std.specs.Prelude.{◌≡◌, true, ◌≤◌, ◌<◌, length, replicate};
 ghost use Rattle.layout.specs.Opening.{total_of, admissible};
 ghost use Rattle.opening.specs.Refusals.{opens as opens_for};

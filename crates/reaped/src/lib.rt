@@ -1,4 +1,6 @@
 // reaped: the kernel's reply to REAPURBNDELAY. A notice of a slot that is out returns the slot.
+#![tactic(auto)]
+
 mod counters;
 mod status;
 

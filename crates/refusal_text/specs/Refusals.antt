@@ -29,7 +29,7 @@ refusals =
     ∷ (19, "Underrun", "an underrun under the policy Error; carries the count")
     ∷ (20, "ListTooShort", "the list is shorter than the slots to discard")
     ∷ (21, "UnsupportedSpeed", "a speed other than Full, High, Super, SuperPlus")
-    ∷ (22, "InvalidInterval", "b_interval outside 1 to 16")
+    ∷ (22, "InvalidInterval", "bInterval outside 1 to 16")
     ∷ (23, "ZeroPacketBytes", "no bytes a packet")
     ∷ (24, "ZeroPackets", "no packets")
     ∷ (25, "ProductOverflow", "a product above 2^64 - 1")

@@ -1,5 +1,7 @@
 // What a refusal's number means, for a C host: a short name and a text, each stored as a C string in a lent slice.
 // A number that is no refusal has empty ones.
+#![tactic(auto)]
+
 mod c_string;
 mod line;
 mod table;

@@ -57,7 +57,7 @@ pub const TEXTS: [u8; 1176] = *b"\n\
     an underrun under the policy Error; carries the count\n\
     the list is shorter than the slots to discard\n\
     a speed other than Full, High, Super, SuperPlus\n\
-    b_interval outside 1 to 16\n\
+    bInterval outside 1 to 16\n\
     no bytes a packet\n\
     no packets\n\
     a product above 2^64 - 1\n\

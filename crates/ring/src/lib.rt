@@ -1,6 +1,8 @@
 // The ring's slots and its free queue, the hand, and the test that they are sound.
 // The queue is held front first, in the first free_len places of `free`. What stands behind it is never looked at and
 // never changes.
+#![tactic(auto)]
+
 mod pieces;
 
 ghost use Rattle.std.specs.Prelude.{◌≡◌, ℕ, ◌-◌, ◌<◌, ◌≤◌, true, List, [], ◌∷◌, ◌++◌, take, drop, replicate, slice_index};
@@ -17,7 +19,7 @@ use mask::Mask;
 
 // What a slot is doing. Free: in the queue. Filling: in hand. InFlight: the kernel has it. Discarding: the kernel
 // was asked to give it back.
-#[derive(Drop)]
+#[derive(Clone, Copy)]
 pub enum SlotState {
     Free,
     Filling,
@@ -26,14 +28,14 @@ pub enum SlotState {
 }
 
 // The states of all slots: a slot is in the mask of its state, and a Free one in none.
-#[derive(Drop)]
+#[derive(Clone, Copy)]
 pub struct SlotStates {
     pub filling: Mask,
     pub in_flight: Mask,
     pub discarding: Mask,
 }
 
-#[derive(Drop)]
+#[derive(Clone, Copy)]
 pub struct Ring {
     pub states: SlotStates,
     pub free: [u8; 256],
@@ -42,7 +44,7 @@ pub struct Ring {
 }
 
 // The slot that the host has: being filled, to be submitted, or a silent one of a chain with `left` more to follow.
-#[derive(Drop)]
+#[derive(Clone, Copy)]
 pub enum Hand {
     Idle,
     Held(usize),
@@ -51,28 +53,28 @@ pub enum Hand {
 }
 
 // A slot, if there is one: taken from the queue, or named by an address.
-#[derive(Drop)]
+#[derive(Clone, Copy)]
 pub enum Found {
     Slot(usize),
     Nothing,
 }
 
 // What taking the front slot leaves and finds.
-#[derive(Drop)]
+#[derive(Clone, Copy)]
 pub struct Taken {
     pub ring: Ring,
     pub slot: Found,
 }
 
 // A queue's front, and the places of the rest.
-#[derive(Drop)]
+#[derive(Clone, Copy)]
 struct Moved {
     front: u8,
     rest: [u8; 256],
 }
 
 // The slots at home, in the queue or Filling, if no slot is there twice.
-#[derive(Drop)]
+#[derive(Clone, Copy)]
 pub struct Home {
     pub slots: Mask,
     pub once: bool,

@@ -2,7 +2,7 @@
 ghost use Rattle.std.specs.Prelude.{◌≡◌};
 ghost use Rattle.schedule.specs.Endpoint.{transfer_type, direction_of, bytes_per_interval};
 
-#[derive(Drop)]
+#[derive(Clone, Copy)]
 pub enum TransferType {
     Control,
     Isochronous,
@@ -10,14 +10,14 @@ pub enum TransferType {
     Interrupt,
 }
 
-#[derive(Drop)]
+#[derive(Clone, Copy)]
 pub enum Direction {
     Out,
     In,
 }
 
 // A standard endpoint descriptor's fields; max_packet_size is wMaxPacketSize as it stands.
-#[derive(Drop)]
+#[derive(Clone, Copy)]
 pub struct Endpoint {
     pub address: u8,
     pub attributes: u8,

@@ -6,7 +6,7 @@ ghost use Rattle.schedule.specs.Interval.{packet_interval_us};
 use super::speed::{ServiceInterval, Speed};
 use error::Error;
 
-#[derive(Drop)]
+#[derive(Clone, Copy)]
 pub enum Interval {
     Micros(u32),
     Refused(Error),

@@ -1,5 +1,7 @@
 // Bus speed, service intervals and the packets-per-URB arithmetic of schedule.rs, the endpoint
 // arithmetic of descriptor.rs, and `plan` of iso.rs.
+#![tactic(auto)]
+
 mod descriptor;
 mod interval;
 mod product;
@@ -19,7 +21,7 @@ pub use speed::{ServiceInterval, Speed};
 use sys::MAX_ISO_PACKETS_PER_URB;
 
 // How much audio to keep in flight: a URB count, or a time that is rounded up.
-#[derive(Drop)]
+#[derive(Clone, Copy)]
 pub enum Depth {
     Urbs(usize),
     Micros(u32),
@@ -27,13 +29,13 @@ pub enum Depth {
 }
 
 // The packets of each URB, where the caller gives them.
-#[derive(Drop)]
+#[derive(Clone, Copy)]
 pub enum Packets {
     Absent,
     Given(usize),
 }
 
-#[derive(Drop)]
+#[derive(Clone, Copy)]
 pub struct Schedule {
     pub speed: Speed,
     pub b_interval: u8,
@@ -43,7 +45,7 @@ pub struct Schedule {
     pub packet_bytes: usize,
 }
 
-#[derive(Drop)]
+#[derive(Clone, Copy)]
 pub enum Derived {
     Schedule(Schedule),
     Refused(Error),

@@ -4,7 +4,7 @@ ghost use Rattle.schedule.specs.Product.{product_of};
 
 use error::Error;
 
-#[derive(Drop)]
+#[derive(Clone, Copy)]
 pub enum Product {
     Value(u64),
     Refused(Error),

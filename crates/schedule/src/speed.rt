@@ -3,7 +3,7 @@ ghost use Rattle.std.specs.Prelude.{◌≡◌};
 ghost use Rattle.schedule.specs.Speed.{from_raw, from_device_probe, service_interval_us, max_intervals};
 
 // enum usb_device_speed, as USBDEVFS_GET_SPEED reports it.
-#[derive(Drop)]
+#[derive(Clone, Copy)]
 pub enum Speed {
     Unknown,
     Low,
@@ -15,7 +15,7 @@ pub enum Speed {
 }
 
 // The length of one service interval; Unsupported where a speed has no isochronous traffic.
-#[derive(Drop)]
+#[derive(Clone, Copy)]
 pub enum ServiceInterval {
     Micros(u32),
     Unsupported,

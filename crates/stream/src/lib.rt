@@ -1,4 +1,6 @@
 // The record of an output stream, the kernel's replies, and the answers of the calls.
+#![tactic(auto)]
+
 ghost use Rattle.std.specs.Prelude.{◌≡◌};
 ghost use Rattle.stream.specs.Sound.{sound};
 
@@ -7,7 +9,7 @@ use layout::Setup;
 use ring::{Hand, Ring};
 
 // Running totals, each modulo 2^64.
-#[derive(Drop)]
+#[derive(Clone, Copy)]
 pub struct IsoStats {
     pub urbs_submitted: u64,
     pub urbs_completed: u64,
@@ -21,7 +23,7 @@ pub struct IsoStats {
 
 // Started: between start and stop. Armed: a URB was accepted since the last stop, counted underrun, or start that
 // had an effect.
-#[derive(Drop)]
+#[derive(Clone, Copy)]
 pub struct Flags {
     pub started: bool,
     pub armed: bool,
@@ -29,7 +31,7 @@ pub struct Flags {
 
 // All that the stream keeps: counters, the hand, opening's values, slots and queue, flags. No padding stands before the
 // ring: the compiler would copy the ring's arrays together with it, out of step with their alignment.
-#[derive(Drop)]
+#[derive(Clone, Copy)]
 pub struct Stream {
     pub stats: IsoStats,
     pub hand: Hand,
@@ -39,21 +41,21 @@ pub struct Stream {
 }
 
 // What the kernel answered to SUBMITURB.
-#[derive(Drop)]
+#[derive(Clone, Copy)]
 pub enum Submission {
     Accepted,
     Errno(u32),
 }
 
 // What the kernel answered to REAPURBNDELAY.
-#[derive(Drop)]
+#[derive(Clone, Copy)]
 pub enum Reaping {
     Errno(u32),
     Address(usize),
 }
 
 // The outcome of one URB, as the kernel filled it in.
-#[derive(Drop)]
+#[derive(Clone, Copy)]
 pub struct Completion {
     pub status: i32,
     pub actual_bytes: u64,
@@ -64,7 +66,7 @@ pub struct Completion {
 }
 
 // A call's answer. Stopped is stop's Done, with how many slots it listed.
-#[derive(Drop)]
+#[derive(Clone, Copy)]
 pub enum Answer {
     Refused(Error),
     Done,
@@ -78,7 +80,7 @@ pub enum Answer {
 }
 
 // What every call gives back: the record and the answer.
-#[derive(Drop)]
+#[derive(Clone, Copy)]
 pub struct Reply {
     pub stream: Stream,
     pub answer: Answer,

@@ -1,5 +1,7 @@
 // The next stretch of sound for a hall: a part of the emergency message while its flag is set and it is not used up,
 // else a part of the programme (request 2026-06). Both buffers are lent, and the reading positions are the host's.
+#![tactic(auto)]
+
 ghost use Rattle.std.specs.Prelude.{◌≡◌, ◌+◌, ◌≤◌, length, take, drop};
 ghost use Rattle.stretch.specs.Stretch.{stretch_length, source_of, next_stretch, buffer_of};
 ghost use Rattle.stretch.specs.Taken.{source_number, refusal_number, positions, Taken};
@@ -7,14 +9,14 @@ ghost use Rattle.stretch.specs.Taken.{source_number, refusal_number, positions, 
 use error::Error;
 
 // A reading position in each buffer.
-#[derive(Drop)]
+#[derive(Clone, Copy)]
 pub struct Positions {
     pub programme: usize,
     pub message: usize,
 }
 
 // Which buffer a stretch is a part of: Neither where a position is beyond its buffer's end.
-#[derive(Drop)]
+#[derive(Clone, Copy)]
 pub enum Source {
     Programme,
     Message,
@@ -22,7 +24,7 @@ pub enum Source {
 }
 
 // Which buffer the stretch is a part of, where it starts there and how long it is; and the next positions.
-#[derive(Drop)]
+#[derive(Clone, Copy)]
 pub struct Stretch {
     pub source: Source,
     pub start: usize,

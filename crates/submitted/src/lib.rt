@@ -1,4 +1,6 @@
 // The call submitted: what the kernel answered to the slot in hand.
+#![tactic(auto)]
+
 ghost use Rattle.std.specs.Prelude.{◌≡◌, ◌*◌, true, [], length};
 ghost use Rattle.layout.specs.Opening.{admissible, total_of};
 ghost use Rattle.ring.specs.Slots.{holds};

@@ -7,7 +7,7 @@ use crate::field::{get_u32, has_room, lay};
 use error::Error;
 
 // struct usbdevfs_iso_packet_desc.
-#[derive(Drop)]
+#[derive(Clone, Copy)]
 pub struct IsoPacketDesc {
     pub length: u32,
     pub actual_length: u32,
@@ -73,7 +73,7 @@ impl IsoPacketDesc {
 }
 
 // What reading a descriptor gives.
-#[derive(Drop)]
+#[derive(Clone, Copy)]
 pub enum IsoPacketDescRead {
     Desc(IsoPacketDesc),
     Refused(Error),

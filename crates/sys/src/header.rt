@@ -10,7 +10,7 @@ use crate::{URB_ISO_ASAP, URB_TYPE_ISO};
 use error::Error;
 
 // struct usbdevfs_urb without its packet descriptors, which follow it.
-#[derive(Drop)]
+#[derive(Clone, Copy)]
 pub struct Urb {
     pub typ: u8,
     pub endpoint: u8,
@@ -179,7 +179,7 @@ impl Urb {
 }
 
 // What reading a header gives.
-#[derive(Drop)]
+#[derive(Clone, Copy)]
 pub enum UrbRead {
     Header(Urb),
     Refused(Error),

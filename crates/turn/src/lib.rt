@@ -1,4 +1,6 @@
 // The call turn: the middle of the Rust's next_slot.
+#![tactic(auto)]
+
 ghost use Rattle.std.specs.Prelude.{◌≡◌, true, length};
 ghost use Rattle.layout.specs.Opening.{total_of};
 ghost use Rattle.ring.specs.declared.Hand.{Hand};

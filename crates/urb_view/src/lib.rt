@@ -1,5 +1,7 @@
 // A header read through a view of its block: the view is taken apart, and the field is read by the header's own
 // function.
+#![tactic(auto)]
+
 ghost use Rattle.std.specs.Prelude.{◌≡◌, ◌+◌, ◌≤◌, length};
 ghost use Rattle.sys.specs.Header.{header_at, header_size};
 ghost use Rattle.urb_view.specs.Viewed.{fields_of, fields_read};
@@ -9,14 +11,14 @@ use sys::Urb;
 use sys::field::has_room;
 
 // A header of a block: the block, and the offset where the header starts.
-#[derive(Drop)]
+#[derive(Clone, Copy)]
 pub struct UrbView<'a> {
     pub block: &'a [u8],
     pub at: usize,
 }
 
 // The fields that the ring reads.
-#[derive(Drop)]
+#[derive(Clone, Copy)]
 pub struct UrbFields {
     pub status: i32,
     pub buffer_length: i32,
@@ -26,7 +28,7 @@ pub struct UrbFields {
 }
 
 // What reading them gives.
-#[derive(Drop)]
+#[derive(Clone, Copy)]
 pub enum UrbFieldsRead {
     Fields(UrbFields),
     Refused(Error),
