@@ -88,6 +88,8 @@ module _ (column : Refusal → String) where
     line-of-row [] k n p = no_line n ∙ sym (empty (k + n))
     line-of-row (r ∷ rows) k zero p = rw (here k r rows p) (first-line (codes (column r)) (joined rows) (line_plain k r rows p))
     line-of-row (r ∷ rows) k (suc n) p =
-        let next : k + suc n ≡ suc k + n = omega arith in
-        rw (later k r rows p n, next)
-        (ap first_line (behind-line n (codes (column r)) (joined rows) (line_plain k r rows p)) ∙ line-of-row rows (suc k) n (others k r rows p))
+        let next : suc k + n ≡ k + suc n = omega arith in
+        rw (later k r rows p n)
+        (ap first_line (behind-line n (codes (column r)) (joined rows) (line_plain k r rows p))
+        ∙ line-of-row rows (suc k) n (others k r rows p)
+        ∙ ap (λ (m : ℕ). codes (column (row m rows))) next)
