@@ -61,6 +61,7 @@ impl IsoPacketDesc {
     }
 
     // The descriptor that stands at `at`, where the slice has room for one there.
+    #[tactic(auto, unfolding(crate::specs::Descriptor::desc_read))]
     pub fn read(s: &[u8], at: usize) -> IsoPacketDescRead
         ensures { result ≡ desc_read at s.now }
     {

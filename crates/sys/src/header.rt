@@ -167,6 +167,7 @@ impl Urb {
     }
 
     // The header that stands at `at`, where the slice has room for one there.
+    #[tactic(auto, unfolding(crate::specs::Header::header_read))]
     pub fn read(s: &[u8], at: usize) -> UrbRead
         ensures { result ≡ header_read at s.now }
     {
