@@ -1,6 +1,6 @@
 -- Laws of the hand: its slot is one of the n, and the only one that it holds.
 -- By the hand's cases. Assumes nothing.
-use Rattle.std.proofs.Common.{◌≡◌, ℕ, zero, suc, ◌<◌, ◌≤◌, Bool, true, false, ltb, leb, sym, refl, ◌∙◌, true≢false, arith, ltb-true, ne_eqb, eqb-true}
+use Rattle.std.proofs.Common.{◌≡◌, ℕ, zero, suc, ◌<◌, ◌≤◌, Bool, true, false, ltb, leb, sym, refl, ◌∙◌, arith, ltb-true, ne_eqb, eqb-true}
 use mathlib.Core.Bool.{false≢true}
 use Rattle.ring.specs.declared.Hand.{Hand}
 use Rattle.ring.specs.declared.Hand.TheVariants.{Idle, Held, Sending, Silent}

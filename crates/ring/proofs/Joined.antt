@@ -1,9 +1,7 @@
 -- Refusal 8's test of a ring, made by whole masks and in pieces, is sound_ring. Slot by slot the two say the same (proofs/Placed); and where every slot
 -- of n is in the queue, in hand or out, the out count is n less the first two. Assumes nothing.
-use Rattle.std.proofs.Common.{◌≡◌, ℕ, zero, suc, ◌+◌, ◌-◌, ◌%◌, ◌^◌, ◌<◌, ◌≤◌, Bool, true, false, not, ◌&&◌, eqb, ltb, leb, sym, refl, ap, ◌∙◌, arith, ltb-false, ltb-true, lt-ltb, eq-eqb, eqb-true, le-leb, leb-true}
+use Rattle.std.proofs.Common.{◌≡◌, ℕ, zero, suc, ◌+◌, ◌-◌, ◌%◌, ◌^◌, ◌<◌, ◌≤◌, Bool, true, false, not, ◌&&◌, ltb, leb, sym, refl, ap, ◌∙◌, arith, ltb-false, ltb-true, lt-ltb, eq-eqb, eqb-true, le-leb, leb-true}
 use native.Mathlib.Decide.{dec_lt}
-use mathlib.Core.Bool.{beq}
-use borrow.Author.Tests.{not-false}
 use Rattle.mask.specs.Masks.{member, mask_of, is_empty}
 use Rattle.mask.proofs.Masks.{table_fits, member-table, empty-at, empty_of}
 use Rattle.ring.specs.declared.Hand.{Hand}
@@ -15,7 +13,7 @@ use Rattle.ring.specs.Masks.{state_at, in_masks}
 use Rattle.ring.specs.Parts.{queue_of, state_of, Tabled}
 use Rattle.ring.specs.Sound.{sound_ring}
 use Rattle.ring.specs.Tests.{hand_test, times_home, home_once, home_mask, HomeOf, both_or_neither, misplaced, out_test, in_hand, count_test}
-use Rattle.ring.proofs.Truth.{agree, beq-of, both, first, one_at_most, refuted, second}
+use Rattle.ring.proofs.Truth.{agree, beq-of, both, first, one_at_most, second}
 use Rattle.ring.proofs.Counts.{every-at, every_of, count_same, times-past}
 use Rattle.ring.proofs.Hands.{held-count, held-few, not-held}
 use Rattle.ring.proofs.Masks.{pick, filling-bit, masks-tabled, places-one}

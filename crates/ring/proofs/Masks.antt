@@ -1,7 +1,7 @@
 -- Laws of the three masks and of the states that they give: the masks of given states give them back, and masks of which none has a slot twice are
 -- those of their states. From the laws of masks and the cases of a state. Assumes nothing.
-use Rattle.std.proofs.Common.{◌≡◌, ℕ, ◌+◌, ◌<◌, ◌≤◌, Bool, true, false, cond, sym, refl, ap, ◌∙◌, arith}
-use Rattle.mask.specs.Masks.{member, mask_of}
+use Rattle.std.proofs.Common.{◌≡◌, ℕ, ◌+◌, ◌<◌, ◌≤◌, Bool, true, false, cond, refl, ap, ◌∙◌, arith}
+use Rattle.mask.specs.Masks.{member}
 use Rattle.mask.proofs.Masks.{Fits, table_fits, member-table, member-past, mask-ext, mask_is}
 use Rattle.ring.specs.declared.SlotState.{SlotState}
 use Rattle.ring.specs.declared.SlotState.TheVariants.{Free, Filling, InFlight, Discarding}

@@ -1,6 +1,6 @@
 -- A slot moved between the masks: the mask of a state gains the slot, loses it, or keeps it, as the slot's new state says. So the masks after a move
 -- are those of the states with that one changed. By whether a slot is the moved one. Assumes nothing.
-use Rattle.std.proofs.Common.{◌≡◌, ℕ, ◌<◌, ◌≤◌, Bool, true, false, cond, not, ◌&&◌, ◌||◌, eqb, sym, refl, ap, ◌∙◌, ap₂, eqb-true}
+use Rattle.std.proofs.Common.{◌≡◌, ℕ, ◌<◌, Bool, true, false, cond, not, ◌&&◌, ◌||◌, eqb, sym, refl, ap, ◌∙◌, ap₂, eqb-true}
 use mathlib.Core.Bool.{false≢true}
 use Rattle.mask.specs.declared.Mask.{Mask}
 use Rattle.mask.specs.Masks.{member, mask_of}

@@ -2,7 +2,6 @@
 -- places, and the out count is the true one; and rings made of the same states below n are the same. From the laws of states. Assumes nothing.
 use Rattle.std.proofs.Common.{◌≡◌, ℕ, ◌+◌, ◌<◌, ◌≤◌, ltb, List, length, take, sym, refl, ap, ◌∙◌, ap₂, arith, lt-ltb}
 use native.Mathlib.Decide.{dec_lt}
-use Rattle.ring.specs.declared.Ring.{Ring}
 use Rattle.ring.specs.declared.SlotState.{SlotState}
 use Rattle.ring.specs.declared.SlotStates.{SlotStates}
 use Rattle.ring.specs.declared.SlotState.TheVariants.{Free}

@@ -1,6 +1,6 @@
 -- Soundness as a record of facts, and that the test is true exactly where the facts hold.
 -- Each part of the test turns into its fact by the laws of the tests. Assumes nothing.
-use Rattle.std.proofs.Common.{◌≡◌, ℕ, ◌<◌, ◌≤◌, Bool, true, ◌&&◌, ltb, leb, ap, ◌∙◌, arith, le-ltb, eq-eqb, eqb-true, le-leb, leb-true}
+use Rattle.std.proofs.Common.{◌≡◌, ℕ, ◌<◌, ◌≤◌, true, ◌&&◌, ltb, leb, ap, arith, le-ltb, eq-eqb, eqb-true, le-leb, leb-true}
 use native.Mathlib.Decide.{dec_lt}
 use Rattle.ring.specs.declared.Ring.{Ring}
 use Rattle.ring.specs.declared.Hand.{Hand}

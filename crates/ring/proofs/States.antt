@@ -1,7 +1,7 @@
 -- Laws of the slots' states, through the function that reads them: what is read after a slot's state is put, at that slot and at another, and
 -- after those of all slots below n; that two rings with the same states and the same other parts are the same; and what a test says of a
 -- state. From the laws of the masks. Assumes nothing.
-use Rattle.std.proofs.Common.{◌≡◌, ℕ, ◌<◌, ◌≤◌, true, false, List, take, sym, refl, ap, ◌∙◌, ap₂, arith, le-ltb, lt-ltb, eq-eqb, ne_eqb}
+use Rattle.std.proofs.Common.{◌≡◌, ℕ, ◌<◌, ◌≤◌, true, false, List, take, sym, refl, ◌∙◌, ap₂, arith, le-ltb, lt-ltb, eq-eqb, ne_eqb}
 use native.Mathlib.Decide.{dec_lt}
 use mathlib.Core.Bool.{false≢true}
 use Rattle.ring.specs.declared.SlotState.{SlotState}

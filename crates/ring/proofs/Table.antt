@@ -1,6 +1,6 @@
 -- The masks and the table of states that they stand for: what one form has after a change of states, the other has. From the laws of the masks and
 -- of a table over the slots. Assumes nothing.
-use Rattle.std.proofs.Common.{◌≡◌, ℕ, ◌<◌, List, map, length, get_or, set, sym, refl, ap, ◌∙◌, arith, length-set, get_or-set_other, get_or-set_same, ext_get_or}
+use Rattle.std.proofs.Common.{◌≡◌, ℕ, ◌<◌, get_or, set, sym, ◌∙◌, length-set, get_or-set_other, get_or-set_same, ext_get_or}
 use native.Mathlib.Decide.{ℕ_discrete}
 use Rattle.ring.specs.declared.Ring.{Ring}
 use Rattle.ring.specs.declared.SlotState.{SlotState}

@@ -5,13 +5,12 @@ use native.Mathlib.Decide.{ℕ_discrete}
 use mathlib.Core.Bool.{false≢true}
 use lib.Bits.{bit_and, bit_or, or_lt}
 use Rattle.mask.specs.declared.Mask.{Mask}
-use Rattle.mask.specs.Masks.{member, mask_of}
+use Rattle.mask.specs.Masks.{member}
 use Rattle.mask.proofs.Masks.{Fits, mask-ext, mask_is, mask_in, seen-bit, seen_more}
-use Rattle.ring.specs.declared.Home.{Home}
 use Rattle.ring.specs.Slots.{one}
-use Rattle.ring.specs.Counts.{every_slot, times, all_below}
+use Rattle.ring.specs.Counts.{times, all_below}
 use Rattle.ring.specs.Tests.{times_home, home_once, home_mask, HomeOf}
-use Rattle.ring.proofs.Truth.{both, first, one_at_most, refuted, second}
+use Rattle.ring.proofs.Truth.{first, one_at_most, refuted, second}
 use Rattle.ring.proofs.Counts.{every-at, every_of, times-append, times-same, times-other, times-front, below-append, below_at, below_one}
 
 -- the slots seen are those at home, each of them once

@@ -1,6 +1,4 @@
--- `ring::Hand::count` meets its contract: each arm knows which case the hand is.
--- Assumes nothing.
-use Rattle.std.proofs.Common.{rules}
+-- `ring::Hand::count`: each arm knows which case the hand is.
 use Rattle.ring.specs.Tests.{in_hand}
 use Rattle.ring.proofs.Hand.count.Goals as goal
 

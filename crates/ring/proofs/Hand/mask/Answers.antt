@@ -1,6 +1,4 @@
--- `ring::Hand::mask` meets its contract: each arm knows which case the hand is, and makes the mask of its slot.
--- Assumes nothing.
-use Rattle.std.proofs.Common.{rules}
+-- `ring::Hand::mask`: each arm knows which case the hand is, and makes the mask of its slot.
 use Rattle.ring.specs.Slots.{holds}
 use Rattle.ring.proofs.Hand.mask.Goals as goal
 

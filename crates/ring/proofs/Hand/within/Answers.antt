@@ -1,6 +1,5 @@
--- `ring::Hand::within` meets its contract: each arm knows which case the hand is, and compares the slot and, of Silent, what is left.
--- Assumes nothing.
-use Rattle.std.proofs.Common.{rules, le-ltb, lt-ltb}
+-- `ring::Hand::within`: each arm knows which case the hand is, and compares the slot and, of Silent, what is left.
+use Rattle.std.proofs.Common.{le-ltb, lt-ltb}
 use Rattle.ring.specs.Slots.{hand_within}
 use Rattle.ring.proofs.Hand.within.Goals as goal
 

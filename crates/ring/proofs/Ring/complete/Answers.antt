@@ -1,6 +1,4 @@
--- `ring::Ring::complete` meets its contract: the slot leaves the masks of those out, one less is out, and it stands at the queue's end.
--- Assumes nothing.
-use Rattle.std.proofs.Common.{◌≡◌, ◌∙◌, rules}
+-- `ring::Ring::complete`: the slot leaves the masks of those out, one less is out, and it stands at the queue's end.
 use Rattle.ring.specs.Parts.{queue_of, state_of, with_queue, with_masks, with_state, with_out}
 use Rattle.ring.specs.Moves.{returned, completed}
 use Rattle.ring.proofs.Moves.{moved-home}

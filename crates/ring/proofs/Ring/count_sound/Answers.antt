@@ -1,5 +1,5 @@
--- `ring::Ring::count_sound` meets its contract. Assumes nothing.
-use Rattle.std.proofs.Common.{◌≡◌, ℕ, ◌+◌, ◌%◌, ◌^◌, ap, ◌∙◌, rules, le-leb}
+-- `ring::Ring::count_sound`: the wrapping sum is the test's.
+use Rattle.std.proofs.Common.{◌≡◌, ℕ, ◌+◌, ◌%◌, ◌^◌, ap, ◌∙◌, le-leb}
 use borrow.Author.Tests.{lt-leb}
 use Rattle.ring.specs.declared.Hand.{Hand}
 use Rattle.ring.specs.Tests.{in_hand, count_test}

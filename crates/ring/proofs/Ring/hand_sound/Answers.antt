@@ -1,7 +1,6 @@
--- `ring::Ring::hand_sound` meets its contract: the symmetric difference of the two masks is empty where no slot is in one of them alone.
--- Assumes nothing.
-use Rattle.std.proofs.Common.{◌≡◌, Bool, not, ap, ◌∙◌, rules}
-use mathlib.Core.Bool.{beq}
+-- `ring::Ring::hand_sound`: the symmetric difference of the two masks is empty where no slot is in one of them alone.
+use Rattle.std.proofs.Common.{◌≡◌, Bool, not, ap, ◌∙◌}
+use Rattle.std.specs.Bool.{beq}
 use Rattle.mask.specs.declared.Mask.{Mask}
 use Rattle.mask.specs.Masks.{member, mask_of, is_empty}
 use Rattle.mask.proofs.Masks.{member-table, mask-ext}

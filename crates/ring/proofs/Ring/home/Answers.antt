@@ -1,5 +1,4 @@
--- `ring::Ring::home` meets its contract: it is the walk of the ring's own queue. Assumes nothing.
-use Rattle.std.proofs.Common.{rules}
+-- `ring::Ring::home`: it is the walk of the ring's own queue.
 use Rattle.ring.specs.Parts.{queue_of}
 use Rattle.ring.proofs.Ring.home.Goals as goal
 

@@ -1,6 +1,5 @@
--- `ring::Ring::is_discarding` meets its contract: the mask has the slot exactly when that is its state.
--- Assumes nothing.
-use Rattle.std.proofs.Common.{◌∙◌, rules}
+-- `ring::Ring::is_discarding`: the mask has the slot exactly when that is its state.
+use Rattle.std.proofs.Common.{◌∙◌}
 use Rattle.ring.specs.Parts.{state_of}
 use Rattle.ring.proofs.Masks.{discarding-bit}
 use Rattle.ring.proofs.Ring.is_discarding.Goals as goal

@@ -1,5 +1,5 @@
--- `ring::Ring::is_out` meets its contract: one of the two masks has the slot exactly when it is out. Assumes nothing.
-use Rattle.std.proofs.Common.{◌≡◌, Bool, ◌||◌, refl, ap, ◌∙◌, rules}
+-- `ring::Ring::is_out`: one of the two masks has the slot exactly when it is out.
+use Rattle.std.proofs.Common.{◌≡◌, ◌||◌, refl, ap, ◌∙◌}
 use Rattle.mask.specs.declared.Mask.{Mask}
 use Rattle.mask.specs.Masks.{member}
 use Rattle.mask.proofs.Masks.{member-table}

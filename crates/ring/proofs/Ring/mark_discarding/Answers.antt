@@ -1,6 +1,5 @@
--- `ring::Ring::mark_discarding` meets its contract: the InFlight slots join the Discarding ones, and none is InFlight.
--- Assumes nothing.
-use Rattle.std.proofs.Common.{◌≡◌, ap, ◌∙◌, rules}
+-- `ring::Ring::mark_discarding`: the InFlight slots join the Discarding ones, and none is InFlight.
+use Rattle.std.proofs.Common.{ap}
 use Rattle.ring.specs.Parts.{with_masks}
 use Rattle.ring.specs.Moves.{discarded}
 use Rattle.ring.proofs.Moves.{moved-discarded}
@@ -9,4 +8,5 @@ use Rattle.ring.proofs.Ring.mark_discarding.Goals as goal
 pub returns : goal.returns
 unfolding discarded with_masks
 returns c =
-    rw (c.new-states.ensures, c.none-none.ensures, c.union.ensures) (ap (with_masks c.args.self) (moved-discarded c.args.self c.requires))
+    rw (c.new-states.ensures, c.none-none.ensures, c.union.ensures)
+    (ap (with_masks c.args.self) (moved-discarded c.args.self c.requires))

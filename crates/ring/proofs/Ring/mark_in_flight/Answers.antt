@@ -1,8 +1,5 @@
--- `ring::Ring::mark_in_flight` meets its contract: the slot leaves the mask of the Filling ones for that of the InFlight ones.
--- Assumes nothing.
-use Rattle.std.proofs.Common.{◌≡◌, ap, ◌∙◌, rules}
-use Rattle.ring.specs.declared.Ring.{Ring}
-use Rattle.ring.specs.declared.SlotStates.{SlotStates}
+-- `ring::Ring::mark_in_flight`: the slot leaves the mask of the Filling ones for that of the InFlight ones.
+use Rattle.std.proofs.Common.{ap}
 use Rattle.ring.specs.Parts.{state_of, with_masks, with_state, with_out}
 use Rattle.ring.specs.Moves.{marked_in_flight}
 use Rattle.ring.proofs.Moves.{moved_out}
@@ -12,4 +9,5 @@ pub returns : goal.returns
 unfolding marked_in_flight with_state with_masks with_out state_of
 returns c =
     let ring = c.args.self in
-    rw (c.new-states.ensures, c.without.ensures, c.with.ensures) (ap (with_masks (with_out ring _)) (moved_out ring c.requires.2 c.args.i c.requires.3))
+    rw (c.new-states.ensures, c.without.ensures, c.with.ensures)
+    (ap (with_masks (with_out ring _)) (moved_out ring c.requires.2 c.args.i c.requires.3))

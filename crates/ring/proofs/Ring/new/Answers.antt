@@ -1,6 +1,4 @@
--- `Ring::new` meets its contract: it makes the very ring, from the two tables that its callees make.
--- Assumes nothing.
-use Rattle.std.proofs.Common.{rules}
+-- `Ring::new`: it makes the very ring, from the two tables that its callees make.
 use Rattle.ring.specs.Parts.{free_ring}
 use Rattle.ring.proofs.Ring.new.Goals as goal
 

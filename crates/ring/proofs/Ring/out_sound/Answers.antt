@@ -1,6 +1,6 @@
--- `ring::Ring::out_sound` meets its contract: the operations on masks are the test at each slot. Assumes nothing.
-use Rattle.std.proofs.Common.{◌≡◌, ℕ, ◌<◌, Bool, not, ◌&&◌, ◌||◌, ltb, ap, ◌∙◌, rules}
-use mathlib.Core.Bool.{beq}
+-- `ring::Ring::out_sound`: the operations on masks are the test at each slot.
+use Rattle.std.proofs.Common.{◌≡◌, ℕ, not, ◌&&◌, ◌||◌, ltb, ap, ◌∙◌}
+use Rattle.std.specs.Bool.{beq}
 use Rattle.mask.specs.declared.Mask.{Mask}
 use Rattle.mask.specs.Masks.{member, mask_of, is_empty}
 use Rattle.mask.proofs.Masks.{member-table, mask-ext}
@@ -39,7 +39,8 @@ returns-then-home c =
     (c.is_empty.ensures
     ∙ ap is_empty
     (c.union-then-home.ensures
-    ∙ tested c.args.home.slots c.args.self.states.in_flight c.args.self.states.discarding _ _ _ _ _ c.args.n c.intersection-twice.ensures c.union.ensures c.symmetric_difference-placed.ensures
+    ∙ tested c.args.home.slots c.args.self.states.in_flight c.args.self.states.discarding _ _ _ _ _ c.args.n
+    c.intersection-twice.ensures c.union.ensures c.symmetric_difference-placed.ensures
     c.below.ensures c.symmetric_difference.ensures))
 
 pub returns-else-home : goal.returns-else-home

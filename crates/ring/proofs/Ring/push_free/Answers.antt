@@ -1,5 +1,4 @@
--- `ring::Ring::push_free` meets its contract: the queue's end is the place behind it, and the slot is written there.
--- Assumes nothing.
+-- `ring::Ring::push_free`: the queue's end is the place behind it, and the slot is written there.
 use Rattle.std.proofs.Common.{◌≡◌, length, arith, rules}
 use Rattle.ring.specs.Parts.{queue_of, with_queue}
 use Rattle.ring.proofs.Queue.{more-long, more-places}

@@ -1,5 +1,4 @@
--- `ring::Ring::release` meets its contract: the slot leaves the mask of the Filling ones, and stands at the queue's end. Assumes nothing.
-use Rattle.std.proofs.Common.{◌≡◌, ◌∙◌, rules}
+-- `ring::Ring::release`: the slot leaves the mask of the Filling ones, and stands at the queue's end.
 use Rattle.ring.specs.Parts.{queue_of, state_of, with_queue, with_masks, with_state}
 use Rattle.ring.specs.Moves.{returned}
 use Rattle.ring.proofs.Moves.{moved_back}

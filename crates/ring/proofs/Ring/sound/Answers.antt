@@ -1,5 +1,5 @@
--- `ring::Ring::sound` meets its contract: more than 256 slots are refused, and else the pieces joined are the test. Assumes nothing.
-use Rattle.std.proofs.Common.{◌≡◌, sym, ◌∙◌, rules}
+-- `ring::Ring::sound`: more than 256 slots are refused, and else the pieces joined are the test.
+use Rattle.std.proofs.Common.{rules}
 use borrow.Author.Tests.{lt-leb}
 use Rattle.mask.proofs.Masks.{fits}
 use Rattle.ring.specs.Sound.{sound_ring}
@@ -13,5 +13,6 @@ returns-then-n-gt256 c = rw (lt-leb _ _ c.if-n-gt256.true)
 
 pub returns : goal.returns
 returns c =
+    let wide : Wide c.args.self = record { states = search (rules, fits, masks-known); places = search rules } in
     rw (c.hand_sound.ensures, c.out_sound.ensures, c.count_sound.ensures)
-    (joined c.args.n c.if-n-gt256.false c.args.self c.args.hand (let own_wide : Wide c.args.self = record { states = search (rules, fits, masks-known); places = search rules } in own_wide) _ c.home-home.ensures)
+    (joined c.args.n c.if-n-gt256.false c.args.self c.args.hand wide _ c.home-home.ensures)

@@ -1,11 +1,10 @@
--- `ring::Ring::take_free` meets its contract: an empty queue gives nothing; else the queue is its front and the rest, and moving the
--- places down leaves the rest in them.
--- Assumes nothing.
+-- `ring::Ring::take_free`: an empty queue gives nothing; else the queue is its front and the rest, and moving the places down leaves
+-- the rest in them.
 use Rattle.std.proofs.Common.{◌≡◌, length, arith, rules}
 use Rattle.ring.specs.Parts.{queue_of, state_of, with_queue, with_masks, with_state}
 use Rattle.ring.specs.Moves.{taken, taken_from}
 use Rattle.ring.proofs.Moves.{moved-taken}
-use Rattle.ring.proofs.Queue.{byte-below, front_rest, rest-long}
+use Rattle.ring.proofs.Queue.{front_rest, rest-long}
 use Rattle.ring.proofs.Ring.take_free.Goals as goal
 
 pub returns-then-len-eq0 : goal.returns-then-len-eq0
@@ -16,7 +15,7 @@ pub returns : goal.returns
 unfolding taken taken_from queue_of with_queue with_state with_masks state_of
 returns c =
     let ring = c.args.self in
-    let w : length ring.free ≡ 256 = (let own_wide : length c.args.self.free ≡ 256 = search rules in own_wide) in
+    let w : length ring.free ≡ 256 = search rules in
     let queue = front_rest ring.free ring.free_len (omega arith) (omega arith) in
     rw (
       queue,

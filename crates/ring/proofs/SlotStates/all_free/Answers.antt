@@ -1,6 +1,4 @@
--- `ring::SlotStates::all_free` meets its contract: each mask is that of no slot.
--- Assumes nothing.
-use Rattle.std.proofs.Common.{rules}
+-- `ring::SlotStates::all_free`: each mask is that of no slot.
 use Rattle.ring.specs.Slots.{is_filling, is_in_flight, is_discarding}
 use Rattle.ring.specs.Masks.{masks_of}
 use Rattle.ring.proofs.SlotStates.all_free.Goals as goal
