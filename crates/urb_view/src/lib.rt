@@ -42,6 +42,7 @@ impl<'a> UrbView<'a> {
     }
 
     // Internal: the header's status.
+    #[tactic(auto, unfolding(sys::specs::Header::header_at))]
     pub fn status(self) -> i32
         requires { self.at + header_size ≤ length self.block.now }
         ensures { result ≡ (header_at self.entry.at self.entry.block.now).status }
@@ -50,6 +51,7 @@ impl<'a> UrbView<'a> {
     }
 
     // Internal: its buffer length.
+    #[tactic(auto, unfolding(sys::specs::Header::header_at))]
     pub fn buffer_length(self) -> i32
         requires { self.at + header_size ≤ length self.block.now }
         ensures { result ≡ (header_at self.entry.at self.entry.block.now).buffer_length }
@@ -58,6 +60,7 @@ impl<'a> UrbView<'a> {
     }
 
     // Internal: its actual length.
+    #[tactic(auto, unfolding(sys::specs::Header::header_at))]
     pub fn actual_length(self) -> i32
         requires { self.at + header_size ≤ length self.block.now }
         ensures { result ≡ (header_at self.entry.at self.entry.block.now).actual_length }
@@ -66,6 +69,7 @@ impl<'a> UrbView<'a> {
     }
 
     // Internal: its error count.
+    #[tactic(auto, unfolding(sys::specs::Header::header_at))]
     pub fn error_count(self) -> i32
         requires { self.at + header_size ≤ length self.block.now }
         ensures { result ≡ (header_at self.entry.at self.entry.block.now).error_count }
@@ -74,6 +78,7 @@ impl<'a> UrbView<'a> {
     }
 
     // Internal: its cookie.
+    #[tactic(auto, unfolding(sys::specs::Header::header_at))]
     pub fn usercontext(self) -> u64
         requires { self.at + header_size ≤ length self.block.now }
         ensures { result ≡ (header_at self.entry.at self.entry.block.now).usercontext }
@@ -83,6 +88,7 @@ impl<'a> UrbView<'a> {
 }
 
 // Internal: the fields of the header that stands at `at`, each read through one view.
+#[tactic(auto, unfolding(crate::specs::Viewed::fields_of))]
 pub fn fields(block: &[u8], at: usize) -> UrbFields
     requires { at + header_size ≤ length block.now }
     ensures { result ≡ fields_of (header_at at block.now) }
@@ -98,6 +104,7 @@ pub fn fields(block: &[u8], at: usize) -> UrbFields
 }
 
 // The fields of the header that stands at `at`, where the block has room for one there.
+#[tactic(auto, unfolding(crate::specs::Viewed::fields_read))]
 pub fn read(block: &[u8], at: usize) -> UrbFieldsRead
     ensures { result ≡ fields_read at block.now }
 {

@@ -1,2 +1,0 @@
-pub mod OneField
-pub mod Asked
