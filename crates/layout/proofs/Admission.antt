@@ -1,7 +1,7 @@
 -- The values that opening takes, as named facts: within the limits, the base a multiple of 64, the block below the end of the addresses.
 -- Refusal 8's part on the setup is that these facts hold. Assumes nothing.
 use Prim.Native.Nat.{ℕ, ◌+◌, ◌%◌, ◌^◌, ◌≤◌}
-use mathlib.Core.Path.{◌≡◌, refl, sym, ◌∙◌}
+use mathlib.Core.Path.{◌≡◌, sym, ◌∙◌}
 use mathlib.Core.Bool.{Bool, true, false, not}
 use mathlib.Core.Option.{none}
 use native.Mathlib.Omega.{arith}

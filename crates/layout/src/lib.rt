@@ -53,6 +53,7 @@ pub enum Tested {
 }
 
 // Internal: v raised to a multiple of a.
+#[tactic(auto, unfolding(crate::specs::Layout::raised))]
 fn align_up(v: usize, a: usize) -> usize
     requires { (0 < a) × (v + (a - 1) ≤ largest) }
     ensures { result ≡ raised a v }
@@ -61,6 +62,7 @@ fn align_up(v: usize, a: usize) -> usize
 }
 
 // Internal: from one header to the next.
+#[tactic(auto, unfolding(crate::specs::Layout::slot_stride))]
 fn header_stride(packets_per_urb: usize) -> usize
     requires { packets_per_urb ≤ 128 }
     ensures { result ≡ slot_stride packets_per_urb }
@@ -69,6 +71,7 @@ fn header_stride(packets_per_urb: usize) -> usize
 }
 
 // Internal: from one payload to the next.
+#[tactic(auto, unfolding(crate::specs::Layout::data_stride))]
 fn payload_stride(packets_per_urb: usize, packet_bytes: usize) -> usize
     requires { packets_per_urb * packet_bytes + 63 ≤ largest }
     ensures { result ≡ data_stride packets_per_urb packet_bytes }
@@ -77,6 +80,7 @@ fn payload_stride(packets_per_urb: usize, packet_bytes: usize) -> usize
 }
 
 // Internal: what commit fills a packet up to, a multiple of the frame size.
+#[tactic(auto, unfolding(crate::specs::Layout::whole_frames))]
 fn whole_frames(packet_bytes: usize, frame_bytes: usize) -> usize
     requires { 0 < frame_bytes }
     ensures { result ≡ whole_frames packet_bytes frame_bytes }
@@ -85,6 +89,7 @@ fn whole_frames(packet_bytes: usize, frame_bytes: usize) -> usize
 }
 
 // Whether 33 refuses the frame size.
+#[tactic(auto, unfolding(crate::specs::Layout::bad_frame))]
 fn bad_frame(packet_bytes: usize, frame_bytes: usize) -> bool
     ensures { result ≡ bad_frame packet_bytes frame_bytes }
 {
@@ -92,6 +97,7 @@ fn bad_frame(packet_bytes: usize, frame_bytes: usize) -> bool
 }
 
 // Refusals 1, 2 and 3.
+#[tactic(auto, unfolding(crate::specs::Layout::sizes, crate::specs::Tests::first, crate::specs::Tests::tested))]
 fn test_sizes(slots: usize, packets_per_urb: usize, packet_bytes: usize) -> Tested
     ensures { result ≡ tested (first (sizes slots packets_per_urb packet_bytes)) }
 {
@@ -215,6 +221,7 @@ pub struct Places {
 // The part of an address that compares: the low 56 bits where addresses carry a tag, else all of it. On arm64 the top
 // byte of a pointer may hold the allocator's tag, and the kernel may hand an address back with another tag or none:
 // such addresses name the same place.
+#[tactic(auto, unfolding(crate::specs::Opening::masked_of))]
 pub fn masked(tagged: bool, address: usize) -> usize
     ensures { result ≡ masked_of tagged address }
 {
@@ -222,6 +229,7 @@ pub fn masked(tagged: bool, address: usize) -> usize
 }
 
 // The largest masked address.
+#[tactic(auto, unfolding(crate::specs::Opening::limit))]
 fn last_address(tagged: bool) -> usize
     ensures { result ≡ limit tagged - 1 }
 {

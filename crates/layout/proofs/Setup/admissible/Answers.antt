@@ -1,0 +1,29 @@
+-- The limits come first in the list of tests, then 7, and within the limits the layout's total fits.
+use Rattle.std.proofs.Common.{sym}
+use Rattle.layout.specs.Tests.{passed}
+use Rattle.layout.specs.Opening.{total_of, base_address, admissible}
+use Rattle.layout.proofs.Refusals.{first-early, first-late, passed_none, refused-some, passed-only}
+use Rattle.layout.proofs.Limits.{limited, limited-small, layout-total}
+use Rattle.layout.proofs.Setup.admissible.Goals as goal
+
+pub layout_of-layout-requires : goal.layout_of-layout-requires
+layout_of-layout-requires c = limited _ (passed_none _ _ c.test_limits.ensures c.in-Passed.is)
+
+pub bad_base-requires : goal.bad_base-requires
+unfolding total_of
+bad_base-requires c =
+    rw (layout-total _ _ c.layout_of-layout.ensures) (limited-small _ (limited _ (passed_none _ _ c.test_limits.ensures c.in-Passed.is))).some
+
+pub returns-in-Refused : goal.returns-in-Refused
+unfolding admissible passed
+returns-in-Refused c = rw (first-early _ _ _ (refused-some _ _ _ c.test_limits.ensures c.in-Refused.is))
+
+pub returns-in-Passed : goal.returns-in-Passed
+unfolding admissible base_address
+returns-in-Passed c =
+    rw (
+      first-late _ _ (passed_none _ _ c.test_limits.ensures c.in-Passed.is),
+      passed-only,
+      ← layout-total _ _ c.layout_of-layout.ensures,
+      sym c.bad_base.ensures,
+    )
