@@ -1,0 +1,41 @@
+-- `encoding::words::get_words` meets its contract. The loop's invariant: the first i places hold the first i numbers of the bytes, the others are as they were.
+-- Assumes nothing.
+use mathlib.Core.Path.{◌≡◌, refl, sym, ap, ◌∙◌}
+use Prim.Native.Nat.{ℕ, ◌*◌}
+use native.Mathlib.Nat.{zero-add}
+use native.Mathlib.Omega.{arith}
+use borrow.Author.Rules.{rules}
+use lib.ListN.{length-set}
+use Rattle.sys.specs.Bytes.{field}
+use Rattle.ring.specs.Counts.{table}
+use Rattle.ring.proofs.Numbers.{table-put, table-whole}
+use Rattle.encoding.specs.Words.{numbers_at}
+use Rattle.encoding.proofs.words.get_words.Invariants.{number}
+use Rattle.encoding.proofs.words.get_words.Goals as goal
+
+pub loop-i-preserved : goal.loop-i-preserved
+unfolding number
+loop-i-preserved c =
+    let at = c.loop-i in
+    let bytes = c.args.bytes.now in
+    let read : c.get.result ≡ number bytes at.i = c.get.ensures.0 ∙ ap (λ (k : ℕ). field k 8 bytes) (sym (zero-add (8 * at.i))) in
+    (omega arith, simp length-set at.invariant.1, rw at.invariant.2 (table-put (number bytes) c.args.values.now at.i c.get.result (omega arith) read))
+
+pub loop-i-init : goal.loop-i-init
+unfolding table
+loop-i-init c = (search rules, refl, refl)
+
+pub overflow_mul-i : goal.overflow_mul-i
+overflow_mul-i c = omega arith
+
+pub bounds-values-i : goal.bounds-values-i
+bounds-values-i c = omega arith
+
+pub loop-i-smaller : goal.loop-i-smaller
+loop-i-smaller c = omega arith
+
+pub returns : goal.returns
+unfolding number numbers_at
+returns c =
+    let at = c.loop-i in
+    at.invariant.2 ∙ table-whole (number c.args.bytes.now) c.args.values.now at.i (omega arith)
