@@ -5,7 +5,8 @@
 
 mod pieces;
 
-ghost use Rattle.std.specs.Prelude.{◌≡◌, ℕ, ◌-◌, ◌<◌, ◌≤◌, true, List, [], ◌∷◌, ◌++◌, take, drop, replicate, slice_index};
+ghost use Rattle.std.specs.Prelude.{◌≡◌, ℕ, ◌-◌, ◌<◌, ◌≤◌, true, List, [], ◌∷◌, ◌++◌};
+ghost use Rattle.std.specs.Prelude.{take, drop, replicate, slice_index};
 ghost use Rattle.mask.specs.Masks.{mask_of};
 ghost use Rattle.ring.specs.declared.SlotState.{SlotState};
 ghost use Rattle.ring.specs.Slots.{is_discarding, is_out, holds, hand_within};
