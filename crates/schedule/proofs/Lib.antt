@@ -1,3 +1,2 @@
-pub mod Raw
 pub mod Bounds
 pub mod Intervals

@@ -7,7 +7,6 @@ use Rattle.schedule.specs.declared.descriptor.Endpoint.{Endpoint}
 use Rattle.schedule.specs.declared.descriptor.TransferType.{TransferType}
 use Rattle.schedule.specs.declared.Depth.{Depth}
 use Rattle.schedule.specs.declared.Packets.{Packets}
-use Rattle.schedule.specs.declared.Schedule.{Schedule}
 use Rattle.schedule.specs.declared.Derived.{Derived}
 use Rattle.schedule.specs.Interval.{packet_interval_us}
 use Rattle.schedule.specs.Endpoint.{transfer_type, bytes_per_interval}

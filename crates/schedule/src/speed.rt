@@ -23,6 +23,7 @@ pub enum ServiceInterval {
 
 impl Speed {
     // The kernel's number for a speed.
+    #[tactic(auto, unfolding(crate::specs::Speed::from_raw))]
     pub fn from_raw(raw: i32) -> Speed
         ensures { result ≡ from_raw raw }
     {
