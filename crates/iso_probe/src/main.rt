@@ -3,48 +3,51 @@
 #![tactic(auto)]
 
 use error::Error;
-use libc::STDOUT_FILENO;
 use schedule::{Depth, Derived, Packets, Product, Schedule, Speed};
+use std::io;
 
-fn line(label: &[u8], value: u64, unit: &[u8]) {
-    io::write_all(STDOUT_FILENO, label);
-    io::print_decimal(STDOUT_FILENO, value);
-    io::write_all(STDOUT_FILENO, unit);
+fn line(rt: &impl Print, label: &str, value: u64, unit: &str) -> io::Result<()> {
+    print!(rt; "{label}{value}{unit}")
 }
 
-fn refusal(e: Error) {
-    line(b"refused: ", e.number() as u64, b"\n");
+fn refusal(rt: &impl Print, e: Error) -> io::Result<()> {
+    line(rt, "refused: ", e.number() as u64, "\n")
 }
 
-fn product(label: &[u8], value: Product, unit: &[u8]) {
+fn product(rt: &impl Print, label: &str, value: Product, unit: &str) -> io::Result<()> {
     match value {
-        Product::Value(v) => line(label, v, unit),
-        Product::Refused(e) => refusal(e),
+        Product::Value(v) => line(rt, label, v, unit),
+        Product::Refused(e) => refusal(rt, e),
     }
 }
 
-fn shop() {
+fn shop(rt: &impl Print) -> io::Result<()> {
     match Schedule::derive(Speed::Full, 1, 192, Depth::Urbs(8), Packets::Given(8)) {
-        Derived::Refused(e) => refusal(e),
+        Derived::Refused(e) => refusal(rt, e),
         Derived::Schedule(s) => {
-            line(b"packet interval: ", s.packet_interval_us as u64, b" us\n");
-            product(b"URB duration: ", s.urb_duration_us(), b" us\n");
-            product(b"in flight: ", s.in_flight_us(), b" us\n");
-            product(b"memory: ", s.memory_bytes(), b" bytes\n");
+            line(
+                rt,
+                "packet interval: ",
+                s.packet_interval_us as u64,
+                " us\n",
+            )?;
+            product(rt, "URB duration: ", s.urb_duration_us(), " us\n")?;
+            product(rt, "in flight: ", s.in_flight_us(), " us\n")?;
+            product(rt, "memory: ", s.memory_bytes(), " bytes\n")
         }
     }
 }
 
-fn urbs(label: &[u8], depth: Depth) {
+fn urbs(rt: &impl Print, label: &str, depth: Depth) -> io::Result<()> {
     match Schedule::derive(Speed::High, 4, 192, depth, Packets::Given(8)) {
-        Derived::Refused(e) => refusal(e),
-        Derived::Schedule(s) => line(label, s.urbs as u64, b" URBs\n"),
+        Derived::Refused(e) => refusal(rt, e),
+        Derived::Schedule(s) => line(rt, label, s.urbs as u64, " URBs\n"),
     }
 }
 
-fn main() {
-    shop();
-    urbs(b"depth of 0 URBs: ", Depth::Urbs(0));
-    urbs(b"depth of 0 us: ", Depth::Micros(0));
-    urbs(b"depth of 0 ms: ", Depth::Millis(0));
+fn main(rt: HostRuntime) -> io::Result<()> {
+    shop(&rt)?;
+    urbs(&rt, "depth of 0 URBs: ", Depth::Urbs(0))?;
+    urbs(&rt, "depth of 0 us: ", Depth::Micros(0))?;
+    urbs(&rt, "depth of 0 ms: ", Depth::Millis(0))
 }
