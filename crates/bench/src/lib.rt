@@ -1,6 +1,6 @@
 // The hot cycle by value, for the benchmark (docs/PERFORMANCE.md): reaped of the oldest slot, reaped Nothing, turn,
 // commit_full, submitted Accepted. It is a host's loop, each call made at one place of the code. A Rust program links
-// it and takes the time. These functions promise that they are safe and end.
+// it (crates/bench_c) and takes the time. These functions promise that they are safe and end.
 #![tactic(auto)]
 
 use commit::commit_full;
@@ -92,8 +92,7 @@ pub fn rounds(s: Stream, addresses: &[usize], count: usize, block: &mut [u8]) ->
 }
 
 // Opens a ring, sends all slots, and makes the rounds that follow. How many slots came back.
-#[unsafe(no_mangle)]
-pub extern "C" fn usbfs_iso_cycles(
+pub fn usbfs_iso_cycles(
     packets: usize,
     packet_bytes: usize,
     base: usize,
