@@ -31,7 +31,7 @@ kernel:
 lib: build/libusbfs_iso.a
 
 # Proved again when a source is newer.
-build/libusbfs_iso.a: crates.txt usbfs_iso.pc.in $(shell find crates -name '*.rt' -o -name '*.antt')
+build/libusbfs_iso.a: crates.txt usbfs_iso.pc.in $(shell find crates -name out -prune -o -name '*.rt' -print -o -name '*.antt' -print)
 	@tools/lib
 
 build/replay: $(wildcard examples/replay/*) include/usbfs_iso.h build/libusbfs_iso.a
