@@ -14,7 +14,7 @@ use Rattle.layout.specs.Layout.{any_above}
 use Rattle.layout.specs.declared.Underrun.{Underrun}
 use Rattle.layout.specs.Opening.{total_of, capacity_of}
 use Rattle.ring.specs.declared.Hand.{Hand}
-use Rattle.ring.specs.Slots.{is_free, one, holds, hand_within}
+use Rattle.ring.specs.Slots.{is_free, holds, hand_within}
 use Rattle.ring.proofs.Truth.{both, first, second}
 use Rattle.stream.specs.declared.Answer.{Answer}
 use Rattle.stream.specs.declared.IsoStats.{IsoStats}
@@ -23,7 +23,6 @@ use Rattle.ledger.specs.Slot.{lengths_of}
 use Rattle.ledger.specs.Step.{Next, Rule, refused, on_block, by_idle, when_idle, by_held, when_held, put_back}
 use Rattle.ledger.specs.Turn.{take_front, silence_front, drained, one_underrun, underrun, on_underrun, turn_idle, turn}
 use Rattle.ledger.specs.Commit.{send, commit_held, commit, packets_held, commit_packets}
-use Rattle.ledger.specs.Submitted.{silent}
 use Rattle.ledger.proofs.Valid.{Valid}
 use Rattle.ledger.proofs.Moves.{rehanded, front_below, front-taken, brought-back, sent-out, held-not-free}
 

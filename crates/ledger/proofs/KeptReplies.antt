@@ -1,17 +1,16 @@
 -- submitted and reaped keep a ledger valid.
 -- Assumes nothing.
 use mathlib.Core.Path.{◌≡◌, refl, sym, ap, subst, ◌∙◌}
-use mathlib.Core.Bool.{true, not}
+use mathlib.Core.Bool.{true}
 use mathlib.Core.List.{List}
 use Prim.Native.Nat.{ℕ, zero, suc, ◌≤◌, ◌<◌}
 use native.Mathlib.Decide.{dec_lt}
 use native.Mathlib.Omega.{arith}
 use lib.ListN.{get_or-eq_default}
-use Rattle.error.specs.declared.Error.{Error}
 use Rattle.layout.specs.declared.Setup.{Setup}
 use Rattle.ring.specs.declared.Found.{Found}
 use Rattle.ring.specs.declared.Hand.{Hand}
-use Rattle.ring.specs.Slots.{one, holds}
+use Rattle.ring.specs.Slots.{holds}
 use Rattle.stream.specs.declared.Reaping.{Reaping}
 use Rattle.stream.specs.declared.Submission.{Submission}
 use Rattle.ledger.specs.Ledger.{Ledger, Mark, home, out, discarded, with_hand, with_queue, with_marks, with_flags, with_totals, marked, mark_of, returned}
@@ -21,7 +20,7 @@ use Rattle.ledger.specs.Notice.{slot_of_urb}
 use Rattle.ledger.specs.Reaped.{noticed, by_address, by_errno, reaped_idle, reaped}
 use Rattle.ledger.proofs.Valid.{Valid}
 use Rattle.ledger.proofs.Moves.{brought-back, away-not-free}
-use Rattle.ledger.proofs.Kept.{flagged, totalled, refused-valid, block-valid, idle-valid, slot_of, in-sending, in-silent, take-valid, silence-valid}
+use Rattle.ledger.proofs.Kept.{flagged, totalled, block-valid, idle-valid, slot_of, in-sending, in-silent, take-valid, silence-valid}
 
 out≢home : out ≡ home → ⊥
 out≢home e = let z : ◌≡◌ {A = ℕ} 0 1 = cc in omega arith

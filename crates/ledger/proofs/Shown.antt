@@ -22,7 +22,7 @@ use Rattle.ledger.specs.Ledger.{Ledger, outs, state_in}
 use Rattle.ledger.specs.Record.{view, ring_for, stored}
 use Rattle.ledger.specs.Shown.{shown_by, shown_in}
 use Rattle.ledger.proofs.View.{view-state, view-outs}
-use Rattle.ledger.proofs.Valid.{Valid, shown-state, shown-wide, shown-outs, stored-sound, stored-wide, view-stored}
+use Rattle.ledger.proofs.Valid.{Valid, shown-state, shown-outs, stored-sound, stored-wide, view-stored}
 use Rattle.ledger.proofs.Calls.{stored-setup}
 
 -- a sound record shows what its own ledger has

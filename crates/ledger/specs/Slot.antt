@@ -1,5 +1,5 @@
 -- What the calls write into the block for a slot: a commit's lengths, and silence.
-use Rattle.std.specs.Prelude.{ℕ, zero, suc, ◌+◌, ◌-◌, ◌*◌, min, List, [], ◌∷◌, ◌++◌, replicate}
+use Rattle.std.specs.Prelude.{ℕ, zero, suc, ◌+◌, ◌-◌, min, List, [], ◌∷◌, ◌++◌, replicate}
 use Rattle.sys.specs.Bytes.{le, store}
 use Rattle.sys.specs.Header.{status_at, buffer_length_at, actual_length_at, error_count_at}
 use Rattle.sys.specs.Descriptor.{desc_bytes, packet_of}

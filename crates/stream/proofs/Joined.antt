@@ -1,7 +1,7 @@
 -- Refusal 8's test of a record, made in pieces, is `sound`: the setup's, and the ring's (ring/proofs/Joined) where the setup is admissible. What a
 -- call's test says where the call makes it itself. Assumes nothing.
-use mathlib.Core.Path.{◌≡◌, refl, sym, ap, ◌∙◌}
-use mathlib.Core.Bool.{Bool, true, false, ◌&&◌, and_assoc}
+use mathlib.Core.Path.{◌≡◌, refl}
+use mathlib.Core.Bool.{Bool, true, false, ◌&&◌}
 use Rattle.layout.specs.Opening.{admissible}
 use Rattle.layout.proofs.Admission.{admits}
 use Rattle.ring.specs.declared.Home.{Home}

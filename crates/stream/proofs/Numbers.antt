@@ -7,7 +7,6 @@ use lib.Dec.{eqb}
 use lib.IntN.{ℤ, pos, negsuc}
 use lib.ListN.{get_or}
 use Rattle.error.specs.declared.Error.{Error}
-use Rattle.error.specs.Number.{number_of, value_of}
 use Rattle.error.proofs.Numbers.{refusal_from, refusal-back}
 use Rattle.ring.specs.Slots.{one}
 use Rattle.stream.specs.declared.Answer.{Answer}

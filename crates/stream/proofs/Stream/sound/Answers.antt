@@ -1,8 +1,6 @@
 -- `Stream::sound` meets its contract: it is the conjunction of the two tests.
 -- Assumes nothing.
 use mathlib.Core.Path.{sym, ◌∙◌}
-use borrow.Author.Rules.{rules}
-use borrow.Author.Tests.{not-true, not-false}
 use Rattle.stream.specs.Sound.{sound}
 use Rattle.stream.proofs.Stream.sound.Goals as goal
 
