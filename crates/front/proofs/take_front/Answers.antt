@@ -1,0 +1,21 @@
+-- `front::take_front` meets its contract: by what taking found, the record with the slot in hand, or the record as it was.
+-- Assumes nothing.
+use mathlib.Core.Path.{refl}
+use Rattle.ring.proofs.Pigeonhole.{front-free}
+use Rattle.stream.proofs.Arrays.{arrays}
+use Rattle.ledger.proofs.View.{facts, own-tabled}
+use Rattle.front.proofs.Taking.{took-slot, took-nothing}
+use Rattle.front.proofs.take_front.Goals as goal
+
+pub take_free-taken-requires : goal.take_free-taken-requires
+take_free-taken-requires c =
+    let f = facts c.args.s c.requires.0 (arrays c.args.s c.well_formed.0) in
+    (f.short, own-tabled c.args.s c.requires.0 (arrays c.args.s c.well_formed.0), λ slot rest q. (front-free f slot rest q).1)
+
+pub returns-in-Slot : goal.returns-in-Slot
+returns-in-Slot c =
+    took-slot c.args.s c.requires.0 (arrays c.args.s c.well_formed.0) c.requires.1 _ c.take_free-taken.ensures _ c.in-Slot.is _ refl c.with_hand.ensures
+
+pub returns-in-Nothing : goal.returns-in-Nothing
+returns-in-Nothing c =
+    took-nothing c.args.s c.requires.0 (arrays c.args.s c.well_formed.0) c.requires.1 _ c.take_free-taken.ensures c.in-Nothing.is _ refl refl
