@@ -1,9 +1,9 @@
 -- What the parts decide: the bytes begin with the image of the record that stands in them exactly when header, setup, states and queue each begin
 -- with their part's numbers; the counters always do, since every 8 bytes are a number. Assumes nothing.
-use Prim.Native.Nat.{ℕ, zero, suc, ◌+◌, ◌*◌, ◌^◌, ◌≤◌, ◌<◌, min}
+use Prim.Native.Nat.{ℕ, zero, suc, ◌+◌, ◌*◌, ◌≤◌, ◌<◌, min}
 use native.Mathlib.Nat.{min-le_right, min-eq_left}
 use native.Mathlib.Omega.{arith}
-use mathlib.Core.Path.{◌≡◌, refl, sym, ap, ap₂, ◌∙◌}
+use mathlib.Core.Path.{◌≡◌, refl, sym, ap, ◌∙◌}
 use mathlib.Core.Bool.{Bool, true, ◌&&◌, and_assoc, and-true}
 use mathlib.Core.List.{List, ◌++◌, map, map-append}
 use lib.ListN.{length, take, drop, get_or, length-append, length-replicate, length-map, length-take, take-append-drop}
@@ -19,7 +19,6 @@ use Rattle.ring.proofs.Numbers.{table-long, table_same}
 use Rattle.ring.proofs.Restored.{with-queue, with-state, with-wide}
 use Rattle.ring.proofs.Wide.{Wide}
 use Rattle.stream.specs.declared.Flags.{Flags}
-use Rattle.stream.specs.declared.Stream.{Stream}
 use Rattle.ledger.specs.Shown.{shown_by}
 use Rattle.encoding.specs.Words.{words, numbers_at, places, begins}
 use Rattle.image.specs.Image.{counter_numbers, setup_for, image}

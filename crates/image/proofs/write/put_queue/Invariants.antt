@@ -1,0 +1,17 @@
+-- `image::write::put_queue` meets its contract. The loop's invariant: the first i places are stored, one store of them all; a place within the queue holds its
+-- slot, one behind it 0. Assumes nothing.
+use mathlib.Core.Path.{◌≡◌}
+use Prim.Native.Nat.{◌-◌, ◌≤◌}
+use lib.ListN.{length, take}
+use Rattle.sys.specs.Bytes.{store}
+use Rattle.ring.specs.Counts.{table}
+use Rattle.encoding.specs.Words.{words}
+use Rattle.encoding.proofs.Laid.{entry}
+use Rattle.image.proofs.write.put_queue.Given as goal
+
+abbrev pub invariant-loop-i : goal.invariant-loop-i
+invariant-loop-i l =
+    (l.i ≤ l.n) × (length l.image ≡ length l.initial.image) × (l.image ≡ store l.at (words 4 (table (entry (take l.used l.free)) l.i)) l.initial.image)
+
+abbrev pub decreases-loop-i : goal.decreases-loop-i
+decreases-loop-i l = l.n - l.i
