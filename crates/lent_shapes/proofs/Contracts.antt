@@ -1,7 +1,6 @@
 -- The contracts of the calls by the shape of their other parameters: of the call that takes the record by value, and of the same call on a lent record. Both promise what
 -- `Told` says of the call.
 -- Assumes nothing.
-use mathlib.Core.Path.{◌≡◌}
 use Prim.Native.Nat.{ℕ, suc}
 use mathlib.Core.List.{List, [], ◌∷◌}
 use seplogic.Ra.Ura.{Ura}
@@ -22,7 +21,6 @@ use denote.Triple.End.{Fins, outs, lasts_of, all}
 use denote.Triple.Entry.{Args, Vals, Res, on_entry}
 use denote.Triple.Spec.{triple_of}
 use denote.Triple.Statement.{Contract, Triple}
-use Rattle.stream.specs.declared.Stream.{Stream}
 use Rattle.stream.specs.contracts.Answer as N
 use Rattle.stream.specs.contracts.Reply as R
 use Rattle.stream.specs.contracts.Stream as S

@@ -5,9 +5,9 @@ use mathlib.Core.Path.{refl, sym, ap}
 use Prim.Native.Nat.{ℕ, ◌<◌, ◌^◌}
 use mathlib.Core.List.{[], ◌∷◌, List}
 use seplogic.Ra.Ura.{Ura}
-use seplogic.Ra.TreeShare.{full_share}
+use base.Fraction.{full_share}
 use mir.Raw.{raw as raw-type}
-use mir.Syntax.{Lifetime, Fn, Name, Ty, Opd, Place, Body as Code, named, call, seq}
+use mir.Syntax.{Lifetime, Fn, Callee, Ty, Opd, Place, Body as Code, named, call, seq}
 use mir.Val.{Val, vptr}
 use base.Logic.{SProp, ent, sep, id⊢}
 use base.Stored.{Gv}
@@ -30,10 +30,10 @@ use denote.Struct.Steps.{spelt}
 use denote.Triple.Call.{calls_from}
 use denote.Triple.Walked.{says}
 use Rattle.lent_shapes.proofs.Bodies.{alone-lent, slice-lent, value-slice-lent, two-values-lent}
-use Rattle.lent_shapes.proofs.Types.{Fits, Datum, Pair, pair-mir, Rest, Asks, Gives, Replied, at, Has, Answered, Leaves}
+use Rattle.lent_shapes.proofs.Types.{Fits, Datum, Pair, pair-mir, Rest, Asks, Gives, Replied, at, Has, left-at, Answered, Leaves}
 
 module _ {M : Type 1} {𝓤 : Ura M} (𝓛 : Logic 𝓤) {S N R : RattleType} {s : Datum 𝓛 S} {n : Datum 𝓛 N} (p : Pair 𝓛 s n R) (e : Rest 𝓛 S N)
-    (C : Calls 𝓤 𝓛.H) (Λ : Loops 𝓤 𝓛.H) (fm : FmC 𝓤 𝓛.H 𝓛.laws C) (g : Name) (κ : Lft) (q : Share) (b o : ℕ) (γ : GName) (h : S.Denot) where
+    (C : Calls 𝓤 𝓛.H) (Λ : Loops 𝓤 𝓛.H) (fm : FmC 𝓤 𝓛.H 𝓛.laws C) (g : Callee) (κ : Lft) (q : Share) (b o : ℕ) (γ : GName) (h : S.Denot) where
   open 𝓛 use {H, A}
 
   abbrev Left : Val → SProp 𝓤
@@ -91,16 +91,16 @@ module _ {M : Type 1} {𝓤 : Ura M} (𝓛 : Logic 𝓤) {S N R : RattleType} {s
 
   -- at the end: what is had gives what f promises
   ends : (r : R.Denot) → Is N (p.answer r) (n.val (p.answer r) ∷ [])
-      → ent 𝓤 (⋆ 𝓛 (seen (p.stream r) ∷ ‵ (flft κ q) ∷ raw e.tokens ∷ raw (Replied 𝓛 p e h r) ∷ [])) (Left (n.val (p.answer r)))
+      → ent 𝓤 (⋆ 𝓛 (seen (p.stream r) ∷ ‵ (fbor κ holds) ∷ ‵ (flft κ q) ∷ raw e.tokens ∷ raw (Replied 𝓛 p e h r) ∷ [])) (Left (n.val (p.answer r)))
   ends r is =
-      qed 𝓛 (seen (p.stream r) ∷ ‵ (flft κ q) ∷ raw e.tokens ∷ raw (Replied 𝓛 p e h r) ∷ []) ∵ updating ! $ at_once ! $
-      use1 𝓛 (‵ (fres γ (S.coded.code (p.stream r)))) (𝓛.names.obs-res γ (S.coded.code (p.stream r))) $ move ! (3 ∷ []) $
+      qed 𝓛 (seen (p.stream r) ∷ ‵ (fbor κ holds) ∷ ‵ (flft κ q) ∷ raw e.tokens ∷ raw (Replied 𝓛 p e h r) ∷ []) ∵ updating ! $ at_once ! $
+      use1 𝓛 (‵ (fres γ (S.coded.code (p.stream r)))) (𝓛.names.obs-res γ (S.coded.code (p.stream r))) $ fjoin ! $ move ! (3 ∷ []) $
       use1 𝓛 (some (λ (ws : Unit {0} × e.Last). ‵ (fsep ftrue (e.says ws.1)) ⊛ raw (fact 𝓤 (e.promise (p.answer r) (p.stream r) ws.1)))) (id⊢ 𝓤 _) $ pick ! (λ ws. split ! $ fsplit ! $ drop ! $
       move ! (1 ∷ []) $ heard ! (e.promise (p.answer r) (p.stream r) ws.1) (λ ok.
       -- [what says the last values; what says the record's; the token; the other tokens]
       show ! (λ (a : N.Denot). sep 𝓤 (sep 𝓤 (sep 𝓤 (A.lft κ q) e.tokens) (sem 𝓛 (N.own_val a (n.val (p.answer r) ∷ [])))) (Answered 𝓛 S N e κ q b o γ h a)) (p.answer r) $
       move ! (2 ∷ 3 ∷ []) $ join ! $ owned ! N (Is N) n.makes (p.answer r) _ is $ move ! (1 ∷ 0 ∷ []) $ join ! $ frame ! $
-      show ! (λ (us : S.Denot × e.Last). sep 𝓤 (sem 𝓛 (fsep (fres γ (S.coded.code us.0)) (e.says us.1))) (fact 𝓤 (e.promise (p.answer r) us.0 us.1))) (p.stream r, ws.1) $
+      show ! (λ (us : S.Denot × e.Last). sep 𝓤 (sem 𝓛 (fsep (left-at 𝓛 S N e κ q b o γ h us.0) (e.says us.1))) (fact 𝓤 (e.promise (p.answer r) us.0 us.1))) (p.stream r, ws.1) $
       says ! ok $ move ! (1 ∷ 0 ∷ []) $ fjoin ! $ done !))
 
   -- ---- the walks. A context begins as its comment says, and then has the locals, from the last, each with what frees it
@@ -122,7 +122,7 @@ module _ {M : Type 1} {𝓤 : Ura M} (𝓛 : Logic 𝓤) {S N R : RattleType} {s
       -- [obs; the borrow; the token; the other tokens; what is said of the reply]
       returns ! (look ! 11 refl) $ forget ! 11 refl $ forget ! 9 refl $ forget ! 7 refl $ forget ! 5 refl $
       move ! (11 ∷ 12 ∷ []) $ free1 ! $ move ! (9 ∷ 10 ∷ []) $ free1 ! $ move ! (7 ∷ 8 ∷ []) $ free1 ! $ move ! (5 ∷ 6 ∷ []) $ free1 ! $ free0 ! $
-      keep ! (0 ∷ 2 ∷ 3 ∷ 4 ∷ []) $ by ! (ends r is-a)))))))
+      by ! (ends r is-a)))))))
 
   -- f(s, x) calls g(*s, x), x being a `&mut [T]`: it is passed on for good
   module _ (ε : Ty) (at' : ℕ × ℕ) (m : ℕ) (fits : m < 2 ^ 64) where
@@ -148,7 +148,7 @@ module _ {M : Type 1} {𝓤 : Ura M} (𝓛 : Logic 𝓤) {S N R : RattleType} {s
         -- [obs; the borrow; the token; the other tokens; what is said of the reply]
         returns ! (look ! 17 refl) $ forget ! 17 refl $ forget ! 15 refl $ forget ! 13 refl $ forget ! 11 refl $ forget ! 9 refl $ forget ! 7 refl $ forget ! 5 refl $
         move ! (17 ∷ 18 ∷ []) $ free1 ! $ move ! (15 ∷ 16 ∷ []) $ free1 ! $ move ! (13 ∷ 14 ∷ []) $ free1 ! $ move ! (11 ∷ 12 ∷ []) $ free1 ! $ move ! (9 ∷ 10 ∷ []) $ free1 ! $ move ! (7 ∷ 8 ∷ []) $ free1 ! $ move ! (5 ∷ 6 ∷ []) $ free1 ! $ free0 ! $
-        keep ! (0 ∷ 2 ∷ 3 ∷ 4 ∷ []) $ by ! (ends r is-a))))))))))
+        by ! (ends r is-a))))))))))
 
     -- f(s, y, x) calls g(*s, y, x), x being a `&mut [T]`
     pub value-slice : (k : ℕ) (ℓ : Lifetime) (τ : Ty) (y : Val) → Fits τ y → Meets (y ∷ x ∷ []) → Walks (value-slice-lent s.mir n.mir ρ π k ℓ τ ε g) (y ∷ x ∷ [])
@@ -170,7 +170,7 @@ module _ {M : Type 1} {𝓤 : Ura M} (𝓛 : Logic 𝓤) {S N R : RattleType} {s
         -- [obs; the borrow; the token; the other tokens; what is said of the reply]
         returns ! (look ! 19 refl) $ forget ! 19 refl $ forget ! 17 refl $ forget ! 15 refl $ forget ! 13 refl $ forget ! 11 refl $ forget ! 9 refl $ forget ! 7 refl $ forget ! 5 refl $
         move ! (19 ∷ 20 ∷ []) $ free1 ! $ move ! (17 ∷ 18 ∷ []) $ free1 ! $ move ! (15 ∷ 16 ∷ []) $ free1 ! $ move ! (13 ∷ 14 ∷ []) $ free1 ! $ move ! (11 ∷ 12 ∷ []) $ free1 ! $ move ! (9 ∷ 10 ∷ []) $ free1 ! $ move ! (7 ∷ 8 ∷ []) $ free1 ! $ move ! (5 ∷ 6 ∷ []) $ free1 ! $ free0 ! $
-        keep ! (0 ∷ 2 ∷ 3 ∷ 4 ∷ []) $ by ! (ends r is-a)))))))))))
+        by ! (ends r is-a)))))))))))
 
   -- f(s, y, z) calls g(*s, y, z)
   pub two-values : (τ τ' : Ty) (y z : Val) → Fits τ y → Fits τ' z → Meets (y ∷ z ∷ []) → Walks (two-values-lent s.mir n.mir ρ π τ τ' g) (y ∷ z ∷ [])
@@ -190,4 +190,4 @@ module _ {M : Type 1} {𝓤 : Ura M} (𝓛 : Logic 𝓤) {S N R : RattleType} {s
       -- [obs; the borrow; the token; the other tokens; what is said of the reply]
       returns ! (look ! 15 refl) $ forget ! 15 refl $ forget ! 13 refl $ forget ! 11 refl $ forget ! 9 refl $ forget ! 7 refl $ forget ! 5 refl $
       move ! (15 ∷ 16 ∷ []) $ free1 ! $ move ! (13 ∷ 14 ∷ []) $ free1 ! $ move ! (11 ∷ 12 ∷ []) $ free1 ! $ move ! (9 ∷ 10 ∷ []) $ free1 ! $ move ! (7 ∷ 8 ∷ []) $ free1 ! $ move ! (5 ∷ 6 ∷ []) $ free1 ! $ free0 ! $
-      keep ! (0 ∷ 2 ∷ 3 ∷ 4 ∷ []) $ by ! (ends r is-a)))))))))
+      by ! (ends r is-a)))))))))

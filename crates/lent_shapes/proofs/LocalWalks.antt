@@ -5,12 +5,12 @@ use mathlib.Core.Path.{refl, sym, ap, subst}
 use Prim.Native.Nat.{ℕ, ◌<◌, ◌^◌}
 use mathlib.Core.List.{[], ◌∷◌, List}
 use seplogic.Ra.Ura.{Ura}
-use seplogic.Ra.TreeShare.{full_share}
+use base.Fraction.{full_share}
 use mir.Raw.{raw as raw-type}
-use mir.Syntax.{Lifetime, Fn, Name, Ty, Opd, Place, Body as Code, named, call, seq}
+use mir.Syntax.{Lifetime, Fn, Callee, Ty, Opd, Place, Body as Code, named, call, seq}
 use mir.Val.{Val, vptr, vstruct, vnil, vcons}
 use base.Logic.{ent, sep, guard, id⊢}
-use base.Fml.{GName, ftrue, fsep, flft, flent, fres, fat}
+use base.Fml.{GName, ftrue, fsep, flft, flent, fat}
 use prog.Wp.{Env, Calls, Loops, WpFn}
 use types.Logic.{Logic, sem}
 use contract.Monad.{fact}
@@ -30,10 +30,10 @@ use denote.Steps.{only, owned, peeks, heard, nothing}
 use denote.Triple.Call.{calls_from}
 use denote.Triple.Walked.{says}
 use Rattle.lent_shapes.proofs.Bodies.{alone-local, slice-local, value-slice-local, two-values-local}
-use Rattle.lent_shapes.proofs.Types.{Fits, Datum, Pair, pair-mir, Rest, Asks, Gives, Replied, at, Has, Answered, Leaves}
+use Rattle.lent_shapes.proofs.Types.{Fits, Datum, Pair, pair-mir, Rest, Asks, Gives, Replied, at, Has, left-at, Answered, Leaves}
 
 module _ {M : Type 1} {𝓤 : Ura M} (𝓛 : Logic 𝓤) {S N R : RattleType} {s : Datum 𝓛 S} {n : Datum 𝓛 N} (p : Pair 𝓛 s n R) (e : Rest 𝓛 S N)
-    (C : Calls 𝓤 𝓛.H) (Λ : Loops 𝓤 𝓛.H) (fm : FmC 𝓤 𝓛.H 𝓛.laws C) (f : Name) (h : S.Denot) where
+    (C : Calls 𝓤 𝓛.H) (Λ : Loops 𝓤 𝓛.H) (fm : FmC 𝓤 𝓛.H 𝓛.laws C) (f : Callee) (h : S.Denot) where
   open 𝓛 use {H}
 
   abbrev π : Ty
@@ -86,7 +86,7 @@ module _ {M : Type 1} {𝓤 : Ura M} (𝓛 : Logic 𝓤) {S N R : RattleType} {s
         calls_from t fm _ (vptr b 0 ∷ vs) (Leaves 𝓛 S N e (α ∷ []) full_share b 0 γ h) (known α b γ) (ops _ _) (λ v.
         use1 𝓛 (later (some (λ (a : N.Denot). ((‵ (flft (α ∷ []) full_share) ⊛ raw e.tokens) ⊛ ‵ (N.own_val a (v ∷ []))) ⊛ raw (Answered 𝓛 S N e (α ∷ []) full_share b 0 γ h a)))) (id⊢ 𝓤 _) $ await t tt $ pick t (λ a.
         split t $ split t $ split t $ move t (2 ∷ []) $ peeks t N (Is N) (shows 𝓛 N) a (v ∷ []) (λ is-a. drop t $ move t (2 ∷ []) $
-        use1 𝓛 (some (λ (ws : S.Denot × e.Last). ‵ (fsep (fres γ (S.coded.code ws.0)) (e.says ws.1)) ⊛ raw (fact 𝓤 (e.promise a ws.0 ws.1)))) (id⊢ 𝓤 _) $ pick t (λ ws. split t $ fsplit t $
+        use1 𝓛 (some (λ (ws : S.Denot × e.Last). ‵ (fsep (left-at 𝓛 S N e (α ∷ []) full_share b 0 γ h ws.0) (e.says ws.1)) ⊛ raw (fact 𝓤 (e.promise a ws.0 ws.1)))) (id⊢ 𝓤 _) $ pick t (λ ws. split t $ fsplit t $ fsplit t $ move t (1 ∷ []) $ drop t $
         move t (2 ∷ []) $ heard t (e.promise a ws.0 ws.1) (λ ok.
         -- [what says the record; what says the last values; the lifetime's token; the other tokens; the lender's part]
         move t (2 ∷ []) $ lft_end t tt $ move t (0 ∷ 4 ∷ 1 ∷ []) $ use3 𝓛 (later (‵ ((mem S).own_at ws.0 b 0))) (ref_back 𝓛 S (α ∷ []) γ ws.0 b 0) $ await t tt $

@@ -6,8 +6,8 @@ use Prim.Native.Nat.{ℕ, ◌<◌, ◌^◌}
 use mathlib.Core.List.{List, [], ◌∷◌}
 use lib.ListN.{length}
 use seplogic.Ra.Ura.{Ura}
-use seplogic.Ra.TreeShare.{full_share}
-use mir.Syntax.{Width, Name, Fn, Ty, named, imm, ty_int, ty_ref, w8, w64}
+use base.Fraction.{full_share}
+use mir.Syntax.{Width, Callee, Fn, Ty, named, imm, ty_int, ty_ref, w8, w64}
 use mir.Val.{Val, vptr}
 use base.Logic.{ent, mono_r}
 use base.Fml.{GName}
@@ -55,7 +55,7 @@ shared j w = slice_ty (ty_ref (named j) imm (ty_int w))
 fits-shared : (j : ℕ) (w : Width) (l : Bor (List ℕ)) → length l.now < 2 ^ 64 → Fits (shared j w) (only (shr_slice_vals l))
 fits-shared j w l m = (tt, (tt, (record { fits = m }, tt)))
 
-module _ {M : Type 1} {𝓤 : Ura M} (𝓛 : Logic 𝓤) (𝓜 : Model 𝓤 𝓛.H) (𝓡 : Running 𝓤 𝓛.H 𝓜) (env : Env) (f g : Name) (routine : Routine) (calls : env g ≡ routine) where
+module _ {M : Type 1} {𝓤 : Ura M} (𝓛 : Logic 𝓤) (𝓜 : Model 𝓤 𝓛.H) (𝓡 : Running 𝓤 𝓛.H 𝓜) (env : Env) (f g : Callee) (routine : Routine) (calls : env g ≡ routine) where
   open 𝓛 use {H}
 
   abbrev C : Calls 𝓤 H
@@ -194,7 +194,7 @@ module _ {M : Type 1} {𝓤 : Ura M} (𝓛 : Logic 𝓤) (𝓜 : Model 𝓤 𝓛
     list-slice-lent closed known = by-walk (promise.list-slice-lent c) (λ σ α ρ π. bodies.value-slice-lent σ α ρ π 3 (named 2) (shared 1 w64) (ty_int w8) g) closed
         (λ κs. (mut_vals, (shr_slice_vals, (mut_slice_vals, tt)))) (λ κs. (mut_Tells (named 0) κs.0 S.the_row, (shr_slice_Tells (named 1) κs.1.0 usize, (mut_slice_Tells (named 2) κs.1.1.0 u8, tt)))) (λ y are.
         let (κs, qs, _, (x, (k, (l, _))), _) = y.0 in
-        let z : (triple 𝓛 (promise.list-slice c)).Ghost = ((κs.1, qs.1, tt, (x.now, (k, (l, tt))), (val x.now ∷ [], (shr_slice_vals k, (shr_slice_vals l, tt)))), tt) in
+        let z : (triple 𝓛 (promise.list-slice c)).Ghost = ((κs.1, qs.1, tt, (x.now, (k, (l, tt))), (val x.now ∷ [], (shr_slice_vals k, (mut_slice_vals l, tt)))), tt) in
         lent.value-slice 𝓛 (reply 𝓛) (beside₄ z) C Λ fm g κs.0 qs.0 x.ref_ptr.0 x.ref_ptr.1 x.ghost_name x.now (ty_int w8) l.ref_ptr (length l.now) are.1.1.0.0.1.0
         3 (named 2) (shared 1 w64) (only (shr_slice_vals k)) (fits-shared 1 w64 k are.1.0.0.1.0) (at_key (promise.list-slice c) known z))
 
@@ -202,6 +202,6 @@ module _ {M : Type 1} {𝓤 : Ura M} (𝓛 : Logic 𝓤) (𝓜 : Model 𝓤 𝓛
     list-slice-local closed known = by-walk (promise.list-slice c) (λ σ α ρ π. bodies.value-slice-local σ α ρ π 2 (named 1) (shared 0 w64) (ty_int w8) g) closed
         (λ κs. ((λ x. val x ∷ []), (shr_slice_vals, (mut_slice_vals, tt)))) (λ κs. (tells, (shr_slice_Tells (named 0) κs.0 usize, (mut_slice_Tells (named 1) κs.1.0 u8, tt)))) (λ y are.
         let (κs, qs, _, (h, (k, (l, _))), _) = y.0 in
-        local.value-slice 𝓛 (reply 𝓛) (beside₄ ((κs, qs, tt, (h, (k, (l, tt))), (val h ∷ [], (shr_slice_vals k, (shr_slice_vals l, tt)))), tt)) C Λ fm g h (ty_int w8) l.ref_ptr (length l.now) are.1.1.0.0.1.0
+        local.value-slice 𝓛 (reply 𝓛) (beside₄ ((κs, qs, tt, (h, (k, (l, tt))), (val h ∷ [], (shr_slice_vals k, (mut_slice_vals l, tt)))), tt)) C Λ fm g h (ty_int w8) l.ref_ptr (length l.now) are.1.1.0.0.1.0
         2 (named 1) (shared 0 w64) (only (shr_slice_vals k)) (fits-shared 0 w64 k are.1.0.0.1.0) (λ α b γ.
-        at_key (promise.list-slice-lent c) known (((α ∷ [], κs), (full_share, qs), tt, (at b γ h, (k, (l, tt))), (vptr b 0 ∷ [], (shr_slice_vals k, (shr_slice_vals l, tt)))), tt)))
+        at_key (promise.list-slice-lent c) known (((α ∷ [], κs), (full_share, qs), tt, (at b γ h, (k, (l, tt))), (vptr b 0 ∷ [], (shr_slice_vals k, (mut_slice_vals l, tt)))), tt)))

@@ -8,11 +8,13 @@ use seplogic.Ra.Ura.{Ura}
 use mir.Syntax.{Sym, Ty, ty_struct, tnil, tcons, named}
 use mir.Val.{Val, WT, has_ty, vptr, vstruct, vnil, vcons}
 use base.Logic.{SProp, sep, ex, emp}
-use base.Fml.{Fml, GName, Lft, Share, ftrue, fsep, fres}
+use base.Fml.{Fml, GName, Lft, Share, ftrue, fsep, fbor, fres}
 use types.Logic.{Logic, sem}
+use types.SemTy.{Body}
 use contract.Monad.{fact}
 use denote.RattleType.{RattleType}
 use denote.Laws.{Is, Tells, Makes}
+use denote.Memory.{mem}
 use denote.Ref.{MutRef, MutBor}
 
 -- a machine value of a MIR type
@@ -76,8 +78,12 @@ module _ {M : Type 1} {𝓤 : Ura M} (𝓛 : Logic 𝓤) where
     abbrev pub Has : SProp 𝓤
     Has = sep 𝓤 (sep 𝓤 (sep 𝓤 (A.lft κ q) e.tokens) (sem 𝓛 (fsep ((MutRef (named 0) κ S).own_val at (vptr b o ∷ [])) e.owns))) (emp 𝓤)
 
+    -- what the reference leaves of its last value x: the lender reads it, and has the borrow again, closed
+    abbrev pub left-at : S.Denot → Fml
+    left-at x = fsep (fres γ (S.coded.code x)) (fbor κ (Body (mem S) b o γ))
+
     abbrev pub Answered : N.Denot → SProp 𝓤
-    Answered a = ex 𝓤 (λ (ws : S.Denot × e.Last). sep 𝓤 (sem 𝓛 (fsep (fres γ (S.coded.code ws.0)) (e.says ws.1))) (fact 𝓤 (e.promise a ws.0 ws.1)))
+    Answered a = ex 𝓤 (λ (ws : S.Denot × e.Last). sep 𝓤 (sem 𝓛 (fsep (left-at ws.0) (e.says ws.1))) (fact 𝓤 (e.promise a ws.0 ws.1)))
 
     abbrev pub Leaves : Val → SProp 𝓤
     Leaves v = H.⇛ (ex 𝓤 (λ (a : N.Denot). sep 𝓤 (sep 𝓤 (sep 𝓤 (A.lft κ q) e.tokens) (sem 𝓛 (N.own_val a (v ∷ [])))) (Answered a)))
