@@ -29,7 +29,7 @@ use Rattle.ledger.specs.Told.{Told}
 use Rattle.ledger.proofs.Calls.{told-answer}
 use Rattle.history.specs.History.{ledger_after, record_after}
 use Rattle.history.specs.Words.{Entry, log_of, said, asked, is_slot, is_out, after_discard}
-use Rattle.history.specs.Sums.{total, acceptances, bytes_accepted, completed, transferred, short_bytes, packet_errors, urb_errors, underruns}
+use Rattle.history.specs.Sums.{total, acceptances, bytes_accepted, completed, transferred, short_bytes, packet_errors, urb_errors}
 use Rattle.history.specs.Demand3.{Counted}
 use Rattle.history.specs.Reached.{Reached, next}
 use Rattle.history.specs.Shutdown.{only_reaped_and_finish, log_since, is_noticed, all_noticed, finish_says, ShutDown}

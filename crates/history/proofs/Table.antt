@@ -11,7 +11,6 @@ use lib.ListN.{replicate}
 use borrow.Author.Tests.{lt-ltb, le-ltb}
 use Rattle.layout.specs.declared.Setup.{Setup}
 use Rattle.ring.specs.declared.SlotState.{SlotState}
-use Rattle.ring.specs.declared.SlotStates.{SlotStates}
 use Rattle.ring.specs.Counts.{table}
 use Rattle.ring.specs.Masks.{masks_of, table_of, entry, state_at, first_of}
 use Rattle.ring.specs.Parts.{state_of, with_masks, with_states, free_ring}
@@ -30,7 +29,7 @@ use Rattle.opening.specs.Open.{open_outcome}
 use Rattle.opening.proofs.Outcome.{done-admissible, admissible-done}
 use Rattle.ledger.specs.Calls.{Call, step_of, made}
 use Rattle.ledger.specs.Ledger.{Ledger, state_in, opened_ledger}
-use Rattle.ledger.specs.Record.{view, ring_for, stored, Outcome}
+use Rattle.ledger.specs.Record.{ring_for, stored, Outcome}
 use Rattle.history.specs.History.{ledger_after, record_after}
 use Rattle.history.specs.Table.{with_entries, table_after, SameStates}
 use Rattle.history.proofs.Runs.{InStep, in-step-made, in_step, opened-in-step}
