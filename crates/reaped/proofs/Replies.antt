@@ -2,7 +2,6 @@
 -- the record shows gives the record. Assumes nothing.
 use Rattle.std.proofs.Common.{◌≡◌, ℕ, Bool, true, false, cond, List, [], sym, refl, ap, ◌∙◌, subst}
 use Rattle.error.specs.declared.Error.{Error}
-use Rattle.layout.specs.declared.Setup.{Setup}
 use Rattle.ring.specs.declared.Found.{Found}
 use Rattle.ring.proofs.Wide.{Wide}
 use Rattle.stream.specs.declared.Answer.{Answer}
@@ -12,11 +11,10 @@ use Rattle.stream.specs.declared.Reply.{Reply}
 use Rattle.stream.specs.declared.Stream.{Stream}
 use Rattle.stream.specs.Sound.{sound}
 use Rattle.ledger.specs.Gives.{Gives}
-use Rattle.ledger.specs.Ledger.{Ledger, Mark, home, out, discarded, with_totals, with_queue, with_marks, marked, mark_of, returned}
-use Rattle.ledger.specs.Notice.{slot_of_urb, completion_of}
+use Rattle.ledger.specs.Ledger.{Mark, home, out, discarded, with_totals, with_queue, with_marks, marked, mark_of, returned}
+use Rattle.ledger.specs.Notice.{completion_of}
 use Rattle.ledger.specs.Reaped.{noticed, by_address, by_errno, reaped_idle}
 use Rattle.ledger.specs.Record.{view, stored}
-use Rattle.ledger.specs.Step.{refused}
 use Rattle.ledger.proofs.Calls.{gives-kept, gives-refused, gives-lent}
 use Rattle.reaped.specs.Completed.{totals_after, answer_for}
 

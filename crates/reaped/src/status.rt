@@ -7,6 +7,7 @@ use error::Error;
 use stream::{Answer, Completion};
 
 // ENODEV or ESHUTDOWN, negated as the kernel gives them.
+#[tactic(auto, unfolding(ledger::specs::Reaped::is_gone))]
 fn is_gone(status: i32) -> bool
     ensures { result ≡ is_gone status }
 {
