@@ -1,6 +1,6 @@
 -- The ends of a commit: put back for its refusal, or sent. Each follows the rule for the slot in hand under the tests that led there.
 -- Assumes nothing.
-use mathlib.Core.Path.{◌≡◌, refl, ◌∙◌}
+use mathlib.Core.Path.{◌≡◌}
 use mathlib.Core.Bool.{true, false}
 use mathlib.Core.List.{List, []}
 use Prim.Native.Nat.{ℕ, ◌≤◌, ◌<◌}
