@@ -6,11 +6,9 @@ use mathlib.Core.Path.{◌≡◌, refl, sym, ap, ap₂, ◌∙◌}
 use mathlib.Core.Bool.{Bool, true, false, cond, ◌&&◌}
 use mathlib.Core.List.{List, [], ◌∷◌, map}
 use borrow.Author.Tests.{le-leb, eq-eqb, ne_eqb}
-use lib.Dec.{leb, eqb}
+use lib.Dec.{leb}
 use lib.ListN.{length}
-use Rattle.error.specs.declared.Error.{Error}
 use Rattle.layout.specs.declared.Setup.{Setup}
-use Rattle.layout.specs.Opening.{admissible}
 use Rattle.ring.proofs.Truth.{both, first, second, refuted}
 use Rattle.ring.proofs.Wide.{Wide}
 use Rattle.sys.specs.Bytes.{store}
@@ -24,9 +22,8 @@ use Rattle.opening.specs.Opened.{no_stream}
 use Rattle.opening.proofs.Fresh.{no-stream-unsound}
 use Rattle.ledger.specs.Ledger.{Ledger}
 use Rattle.ledger.specs.Step.{Next, Rule}
-use Rattle.ledger.specs.Record.{view, stored, Outcome, call}
+use Rattle.ledger.specs.Record.{view, stored, call}
 use Rattle.ledger.specs.Calls.{Call, turn, commit, commit_full, commit_packets, submitted, reaped, give_back, start, stop, finish, rule, lent_to, step_of, made}
-use Rattle.ledger.specs.Shown.{shown_by}
 use Rattle.ledger.specs.Told.{Told}
 use Rattle.ledger.proofs.Calls.{stored-setup}
 use Rattle.ledger.proofs.Numbered.{never-8}
