@@ -45,8 +45,8 @@ all_noticed s stopped since =
 unfoldable pub finish_says : Setup → List Call → List Call → Answer
 finish_says s stopped since = cond (all_noticed s stopped since) Answer.Yes (Answer.Refused Error.Disconnected)
 
--- What holds of the record r after the calls `since`, the stop having left the record `at_stop`: a finish made next says so, and each of the
--- eight counters is what it was at the stop.
+-- What holds of the record r after the calls `since`, the stop having left the record `at_stop`: a finish made next says so, and each of
+-- the eight counters is what it was at the stop.
 pub record ShutDown (s : Setup) (stopped since : List Call) (at_stop r : Stream) : Type 0 where
   pub says : (made finish r).answer ≡ finish_says s stopped since
   pub counters : r.stats ≡ at_stop.stats

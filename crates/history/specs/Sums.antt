@@ -73,4 +73,5 @@ is_turn finish = false
 unfoldable pub underruns : Setup → List Call → ℕ
 underruns s [] = 0
 underruns s (c ∷ before) =
-    one (is_turn c && not (six_or_nine (step_of s c (ledger_after s before)).answer) && drained (ledger_after s before)) + underruns s before
+    one (is_turn c && not (six_or_nine (step_of s c (ledger_after s before)).answer) && drained (ledger_after s before))
+    + underruns s before
