@@ -1,6 +1,5 @@
 -- `opening::header_of` meets its contract: the payload's place added to the base is the buffer's address, and capacity and packet count
--- are below 2^31,
--- so that as signed numbers they are themselves. Assumes nothing.
+-- are below 2^31, so that as signed numbers they are themselves. Assumes nothing.
 use Prim.Native.Nat.{ℕ, ◌+◌, ◌*◌}
 use mathlib.Core.Path.{◌≡◌, sym, ◌∙◌}
 use native.Mathlib.Nat.{add_assoc}
