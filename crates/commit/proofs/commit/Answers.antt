@@ -17,7 +17,8 @@ pub returns-in-Slot : goal.returns-in-Slot
 unfolding rule lent_to Commit.commit
 returns-in-Slot c =
     let a = c.args in
-    held-told a.s (Lent.Block _) (commit a.bytes a.block.now) (Commit.commit_held a.bytes) refl refl _ (sym c.slot_in_hand.ensures ∙ c.in-Slot.is) _ _
+    let opened = sym c.slot_in_hand.ensures ∙ c.in-Slot.is in
+    held-told a.s (Lent.Block _) (commit a.bytes a.block.now) (Commit.commit_held a.bytes) refl refl _ opened _ _
     c.commit_held.ensures
 
 pub returns-in-Refused : goal.returns-in-Refused

@@ -25,7 +25,8 @@ pub returns-in-Slot : goal.returns-in-Slot
 unfolding rule lent_to Commit.commit_full Commit.commit on_block when_held
 returns-in-Slot c =
     let a = c.args in
-    held-told a.s (Lent.Block _) (commit_full a.block.now) (λ i st. Commit.commit_held (capacity_of st) i st) refl refl _ (sym c.slot_in_hand.ensures ∙ c.in-Slot.is) _ _
+    let opened = sym c.slot_in_hand.ensures ∙ c.in-Slot.is in
+    held-told a.s (Lent.Block _) (commit_full a.block.now) (λ i st. Commit.commit_held (capacity_of st) i st) refl refl _ opened _ _
     (rw c.slot_capacity-capacity.ensures at c.commit_held.ensures)
 
 pub returns-in-Refused : goal.returns-in-Refused

@@ -7,7 +7,13 @@ use Rattle.gate.proofs.Gates.{held-is}
 use Rattle.commit.proofs.slot_in_hand.Goals as goal
 
 pub held_test-requires : goal.held_test-requires
-held_test-requires c = λ p. setup-admissible _ (sym (joined c.args.s (arrays c.args.s c.well_formed.0) _ c.home-home.ensures c.admissible.ensures c.hand_sound.ensures c.out_sound.ensures c.count_sound.ensures) ∙ p)
+held_test-requires c =
+    let tested = joined c.args.s (arrays c.args.s c.well_formed.0) _ c.home-home.ensures
+    c.admissible.ensures c.hand_sound.ensures c.out_sound.ensures c.count_sound.ensures in
+    λ p. setup-admissible _ (sym tested ∙ p)
 
 pub returns : goal.returns
-returns c = held-is _ _ (joined c.args.s (arrays c.args.s c.well_formed.0) _ c.home-home.ensures c.admissible.ensures c.hand_sound.ensures c.out_sound.ensures c.count_sound.ensures) c.held_test.ensures
+returns c =
+    let tested = joined c.args.s (arrays c.args.s c.well_formed.0) _ c.home-home.ensures
+    c.admissible.ensures c.hand_sound.ensures c.out_sound.ensures c.count_sound.ensures in
+    held-is _ _ tested c.held_test.ensures
