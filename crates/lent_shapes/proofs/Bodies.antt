@@ -18,9 +18,9 @@ module _ (σ α ρ π : Ty) where
   abbrev relends : Ty → ℕ → ℕ → ℕ → Body → Body
   relends ε i j k rest = seq (assign (place j []) (addr_of (place i (field 0 ∷ deref ε ∷ [])))) (seq (assign (place k []) (aggregate (copy (place j []) ∷ copy (place i (field 1 ∷ [])) ∷ []))) rest)
 
-  -- the reply of local i is taken apart
-  abbrev stores : ℕ → Body
-  stores i = seq (assign (place 1 (deref σ ∷ [])) (rv_opd (copy (place i (field 0 ∷ []))))) (seq (assign (place 0 []) (rv_opd (copy (place i (field 1 ∷ []))))) return)
+  -- the reply of local i is taken apart: its record goes by local j
+  abbrev stores : ℕ → ℕ → Body
+  stores i j = seq (assign (place j []) (rv_opd (copy (place i (field 0 ∷ []))))) (seq (assign (place 1 (deref σ ∷ [])) (rv_opd (copy (place j [])))) (seq (assign (place 0 []) (rv_opd (copy (place i (field 1 ∷ []))))) return))
 
   abbrev ref : Local
   ref = val (ty_ref (named 0) mut π)
@@ -32,8 +32,8 @@ module _ (σ α ρ π : Ty) where
     ty_params = [];
     givens = 0;
     params = 1;
-    locals = val α ∷ ref ∷ val ρ ∷ val σ ∷ [];
-    body = takes 3 (seq (call g (copy (place 3 []) ∷ []) (place 2 [])) (stores 2));
+    locals = val α ∷ ref ∷ val ρ ∷ val σ ∷ val σ ∷ [];
+    body = takes 3 (seq (call g (copy (place 3 []) ∷ []) (place 2 [])) (stores 2 4));
   }
 
   abbrev pub slice-lent : Ty → Callee → Fn
@@ -43,8 +43,8 @@ module _ (σ α ρ π : Ty) where
     ty_params = [];
     givens = 0;
     params = 2;
-    locals = val α ∷ ref ∷ val (slice_ty (ty_ref (named 1) mut ε)) ∷ val ρ ∷ val σ ∷ val (ty_ref erased mut ε) ∷ val (slice_ty (ty_ref erased mut ε)) ∷ [];
-    body = takes 4 (relends ε 2 5 6 (seq (call g (copy (place 4 []) ∷ copy (place 6 []) ∷ []) (place 3 [])) (stores 3)));
+    locals = val α ∷ ref ∷ val (slice_ty (ty_ref (named 1) mut ε)) ∷ val ρ ∷ val σ ∷ val (ty_ref erased mut ε) ∷ val (slice_ty (ty_ref erased mut ε)) ∷ val σ ∷ [];
+    body = takes 4 (relends ε 2 5 6 (seq (call g (copy (place 4 []) ∷ copy (place 6 []) ∷ []) (place 3 [])) (stores 3 7)));
   }
 
   -- with n lifetimes, of which the slice's is ℓ
@@ -55,8 +55,8 @@ module _ (σ α ρ π : Ty) where
     ty_params = [];
     givens = 0;
     params = 3;
-    locals = val α ∷ ref ∷ val τ ∷ val (slice_ty (ty_ref ℓ mut ε)) ∷ val ρ ∷ val σ ∷ val (ty_ref erased mut ε) ∷ val (slice_ty (ty_ref erased mut ε)) ∷ [];
-    body = takes 5 (relends ε 3 6 7 (seq (call g (copy (place 5 []) ∷ copy (place 2 []) ∷ copy (place 7 []) ∷ []) (place 4 [])) (stores 4)));
+    locals = val α ∷ ref ∷ val τ ∷ val (slice_ty (ty_ref ℓ mut ε)) ∷ val ρ ∷ val σ ∷ val (ty_ref erased mut ε) ∷ val (slice_ty (ty_ref erased mut ε)) ∷ val σ ∷ [];
+    body = takes 5 (relends ε 3 6 7 (seq (call g (copy (place 5 []) ∷ copy (place 2 []) ∷ copy (place 7 []) ∷ []) (place 4 [])) (stores 4 8)));
   }
 
   abbrev pub two-values-lent : Ty → Ty → Callee → Fn
@@ -66,8 +66,8 @@ module _ (σ α ρ π : Ty) where
     ty_params = [];
     givens = 0;
     params = 3;
-    locals = val α ∷ ref ∷ val τ ∷ val τ' ∷ val ρ ∷ val σ ∷ [];
-    body = takes 5 (seq (call g (copy (place 5 []) ∷ copy (place 2 []) ∷ copy (place 3 []) ∷ []) (place 4 [])) (stores 4));
+    locals = val α ∷ ref ∷ val τ ∷ val τ' ∷ val ρ ∷ val σ ∷ val σ ∷ [];
+    body = takes 5 (seq (call g (copy (place 5 []) ∷ copy (place 2 []) ∷ copy (place 3 []) ∷ []) (place 4 [])) (stores 4 6));
   }
 
   -- ---- `let answer = f(&mut s, ..); Reply { stream: s, answer }`

@@ -107,22 +107,23 @@ module _ {M : Type 1} {𝓤 : Ura M} (𝓛 : Logic 𝓤) {S N R : RattleType} {s
   -- f(s) calls g(*s)
   pub alone : Meets [] → Walks (alone-lent s.mir n.mir ρ π g) []
   alone known =
-      qed 𝓛 entry ∵ starts ! $ enter ! C Λ _ (vptr b o ∷ []) _ $ alloc1 ! (λ l₀. alloc1 ! (λ l₁. alloc1 ! (λ l₂. alloc1 ! (λ l₃. alloc0 ! $
-      params1 ! $ pass1 ! (init ! 4 refl (tt, tt)) $ pass0 ! $
-      move ! (8 ∷ 9 ∷ 10 ∷ []) $ opened ! tt (λ is-h.
+      qed 𝓛 entry ∵ starts ! $ enter ! C Λ _ (vptr b o ∷ []) _ $ alloc1 ! (λ l₀. alloc1 ! (λ l₁. alloc1 ! (λ l₂. alloc1 ! (λ l₃. alloc1 ! (λ l₄. alloc0 ! $
+      params1 ! $ pass1 ! (init ! 6 refl (tt, tt)) $ pass0 ! $
+      move ! (10 ∷ 11 ∷ 12 ∷ []) $ opened ! tt (λ is-h.
       -- [the cell; the open borrow; obs; auth; ..; what is passed beside the record; the other tokens]
-      assigns ! (of_opd ! (load ! (from ! (hop ! (look ! 8 refl) (stop !))) (look_raw ! 0 refl))) (from ! (stop !)) (init ! 4 refl (s.fits h _ is-h)) $
-      move ! (12 ∷ 13 ∷ []) $ called ! [] known is-h (λ _. (and_then ! (load ! (from ! (stop !)) (look ! 5 refl)) (no_more !))) (λ v r is-r.
+      assigns ! (of_opd ! (load ! (from ! (hop ! (look ! 10 refl) (stop !))) (look_raw ! 0 refl))) (from ! (stop !)) (init ! 6 refl (s.fits h _ is-h)) $
+      move ! (14 ∷ 15 ∷ []) $ called ! [] known is-h (λ _. (and_then ! (load ! (from ! (stop !)) (look ! 7 refl)) (no_more !))) (λ v r is-r.
       -- [the other tokens; what is said of the reply; the cell; the open borrow; obs; auth]
-      land ! (from ! (stop !)) (init ! 8 refl (p.fits r v is-r)) $ rewrite ! 8 (λ (w : Val). ‵ (fat full_share ρ l₂ 0 w)) (ap only (p.tells r _ is-r)) refl $
+      land ! (from ! (stop !)) (init ! 10 refl (p.fits r v is-r)) $ rewrite ! 10 (λ (w : Val). ‵ (fat full_share ρ l₂ 0 w)) (ap only (p.tells r _ is-r)) refl $
       let (is-s, is-a) = p.parts r v is-r in
-      assigns ! (of_opd ! (load ! (from ! (fld ! refl (stop !))) (look_in ! 8 (sub ! 0 refl (whole !))))) (from ! (hop ! (look ! 10 refl) (stop !))) (store_raw ! 2 refl (s.fits (p.stream r) _ is-s)) $
-      assigns ! (of_opd ! (load ! (from ! (fld ! refl (stop !))) (look_in ! 8 (sub ! 1 refl (whole !))))) (from ! (stop !)) (init ! 12 refl (n.fits (p.answer r) _ is-a)) $
+      assigns ! (of_opd ! (load ! (from ! (fld ! refl (stop !))) (look_in ! 10 (sub ! 0 refl (whole !))))) (from ! (stop !)) (init ! 6 refl (s.fits (p.stream r) _ is-s)) $
+      assigns ! (of_opd ! (load ! (from ! (stop !)) (look ! 6 refl))) (from ! (hop ! (look ! 12 refl) (stop !))) (store_raw ! 2 refl (s.fits (p.stream r) _ is-s)) $
+      assigns ! (of_opd ! (load ! (from ! (fld ! refl (stop !))) (look_in ! 10 (sub ! 1 refl (whole !))))) (from ! (stop !)) (init ! 14 refl (n.fits (p.answer r) _ is-a)) $
       move ! (2 ∷ 3 ∷ 4 ∷ 5 ∷ []) $ closed ! tt (p.stream r) is-s $
       -- [obs; the borrow; the token; the other tokens; what is said of the reply]
-      returns ! (look ! 11 refl) $ forget ! 11 refl $ forget ! 9 refl $ forget ! 7 refl $ forget ! 5 refl $
-      move ! (11 ∷ 12 ∷ []) $ free1 ! $ move ! (9 ∷ 10 ∷ []) $ free1 ! $ move ! (7 ∷ 8 ∷ []) $ free1 ! $ move ! (5 ∷ 6 ∷ []) $ free1 ! $ free0 ! $
-      by ! (ends r is-a)))))))
+      returns ! (look ! 13 refl) $ forget ! 13 refl $ forget ! 11 refl $ forget ! 9 refl $ forget ! 7 refl $ forget ! 5 refl $
+      move ! (13 ∷ 14 ∷ []) $ free1 ! $ move ! (11 ∷ 12 ∷ []) $ free1 ! $ move ! (9 ∷ 10 ∷ []) $ free1 ! $ move ! (7 ∷ 8 ∷ []) $ free1 ! $ move ! (5 ∷ 6 ∷ []) $ free1 ! $ free0 ! $
+      by ! (ends r is-a))))))))
 
   -- f(s, x) calls g(*s, x), x being a `&mut [T]`: it is passed on for good
   module _ (ε : Ty) (at' : ℕ × ℕ) (m : ℕ) (fits : m < 2 ^ 64) where
@@ -131,63 +132,66 @@ module _ {M : Type 1} {𝓤 : Ura M} (𝓛 : Logic 𝓤) {S N R : RattleType} {s
 
     pub slice : Meets (x ∷ []) → Walks (slice-lent s.mir n.mir ρ π ε g) (x ∷ [])
     slice known =
-        qed 𝓛 entry ∵ starts ! $ enter ! C Λ _ (vptr b o ∷ x ∷ []) _ $ alloc1 ! (λ l₀. alloc1 ! (λ l₁. alloc1 ! (λ l₂. alloc1 ! (λ l₃. alloc1 ! (λ l₄. alloc1 ! (λ l₅. alloc1 ! (λ l₆. alloc0 ! $
-        params1 ! $ pass1 ! (init ! 10 refl (tt, tt)) $ pass1 ! (init ! 8 refl (tt, (tt, (record { fits = fits }, tt)))) $ pass0 ! $
-        move ! (14 ∷ 15 ∷ 16 ∷ []) $ opened ! tt (λ is-h.
-        -- [the cell; the open borrow; obs; auth; ..; what is passed beside the record; the other tokens]
-        assigns ! (of_opd ! (load ! (from ! (hop ! (look ! 14 refl) (stop !))) (look_raw ! 0 refl))) (from ! (stop !)) (init ! 8 refl (s.fits h _ is-h)) $
-        assigns ! (addr ! (from ! (fld ! refl (hop ! (look_in ! 12 (sub ! 0 refl (whole !))) (stop !))))) (from ! (stop !)) (init ! 6 refl (tt, tt)) $
-        assigns ! (agg ! (and_then ! (load ! (from ! (stop !)) (look ! 6 refl)) (and_then ! (load ! (from ! (fld ! refl (stop !))) (look_in ! 12 (sub ! 1 refl (whole !)))) (no_more !)))) (from ! (stop !)) (init ! 4 refl (tt, (tt, (record { fits = fits }, tt)))) $
-        move ! (18 ∷ 19 ∷ []) $ called ! (x ∷ []) known is-h (λ _. (and_then ! (load ! (from ! (stop !)) (look ! 9 refl)) (and_then ! (load ! (from ! (stop !)) (look ! 5 refl)) (no_more !)))) (λ v r is-r.
-        -- [the other tokens; what is said of the reply; the cell; the open borrow; obs; auth]
-        land ! (from ! (stop !)) (init ! 12 refl (p.fits r v is-r)) $ rewrite ! 12 (λ (w : Val). ‵ (fat full_share ρ l₃ 0 w)) (ap only (p.tells r _ is-r)) refl $
-        let (is-s, is-a) = p.parts r v is-r in
-        assigns ! (of_opd ! (load ! (from ! (fld ! refl (stop !))) (look_in ! 12 (sub ! 0 refl (whole !))))) (from ! (hop ! (look ! 16 refl) (stop !))) (store_raw ! 2 refl (s.fits (p.stream r) _ is-s)) $
-        assigns ! (of_opd ! (load ! (from ! (fld ! refl (stop !))) (look_in ! 12 (sub ! 1 refl (whole !))))) (from ! (stop !)) (init ! 18 refl (n.fits (p.answer r) _ is-a)) $
-        move ! (2 ∷ 3 ∷ 4 ∷ 5 ∷ []) $ closed ! tt (p.stream r) is-s $
-        -- [obs; the borrow; the token; the other tokens; what is said of the reply]
-        returns ! (look ! 17 refl) $ forget ! 17 refl $ forget ! 15 refl $ forget ! 13 refl $ forget ! 11 refl $ forget ! 9 refl $ forget ! 7 refl $ forget ! 5 refl $
-        move ! (17 ∷ 18 ∷ []) $ free1 ! $ move ! (15 ∷ 16 ∷ []) $ free1 ! $ move ! (13 ∷ 14 ∷ []) $ free1 ! $ move ! (11 ∷ 12 ∷ []) $ free1 ! $ move ! (9 ∷ 10 ∷ []) $ free1 ! $ move ! (7 ∷ 8 ∷ []) $ free1 ! $ move ! (5 ∷ 6 ∷ []) $ free1 ! $ free0 ! $
-        by ! (ends r is-a))))))))))
-
-    -- f(s, y, x) calls g(*s, y, x), x being a `&mut [T]`
-    pub value-slice : (k : ℕ) (ℓ : Lifetime) (τ : Ty) (y : Val) → Fits τ y → Meets (y ∷ x ∷ []) → Walks (value-slice-lent s.mir n.mir ρ π k ℓ τ ε g) (y ∷ x ∷ [])
-    value-slice k ℓ τ y fits-y known =
-        qed 𝓛 entry ∵ starts ! $ enter ! C Λ _ (vptr b o ∷ y ∷ x ∷ []) _ $ alloc1 ! (λ l₀. alloc1 ! (λ l₁. alloc1 ! (λ l₂. alloc1 ! (λ l₃. alloc1 ! (λ l₄. alloc1 ! (λ l₅. alloc1 ! (λ l₆. alloc1 ! (λ l₇. alloc0 ! $
-        params1 ! $ pass1 ! (init ! 12 refl (tt, tt)) $ pass1 ! (init ! 10 refl fits-y) $ pass1 ! (init ! 8 refl (tt, (tt, (record { fits = fits }, tt)))) $ pass0 ! $
+        qed 𝓛 entry ∵ starts ! $ enter ! C Λ _ (vptr b o ∷ x ∷ []) _ $ alloc1 ! (λ l₀. alloc1 ! (λ l₁. alloc1 ! (λ l₂. alloc1 ! (λ l₃. alloc1 ! (λ l₄. alloc1 ! (λ l₅. alloc1 ! (λ l₆. alloc1 ! (λ l₇. alloc0 ! $
+        params1 ! $ pass1 ! (init ! 12 refl (tt, tt)) $ pass1 ! (init ! 10 refl (tt, (tt, (record { fits = fits }, tt)))) $ pass0 ! $
         move ! (16 ∷ 17 ∷ 18 ∷ []) $ opened ! tt (λ is-h.
         -- [the cell; the open borrow; obs; auth; ..; what is passed beside the record; the other tokens]
-        assigns ! (of_opd ! (load ! (from ! (hop ! (look ! 16 refl) (stop !))) (look_raw ! 0 refl))) (from ! (stop !)) (init ! 8 refl (s.fits h _ is-h)) $
-        assigns ! (addr ! (from ! (fld ! refl (hop ! (look_in ! 12 (sub ! 0 refl (whole !))) (stop !))))) (from ! (stop !)) (init ! 6 refl (tt, tt)) $
-        assigns ! (agg ! (and_then ! (load ! (from ! (stop !)) (look ! 6 refl)) (and_then ! (load ! (from ! (fld ! refl (stop !))) (look_in ! 12 (sub ! 1 refl (whole !)))) (no_more !)))) (from ! (stop !)) (init ! 4 refl (tt, (tt, (record { fits = fits }, tt)))) $
-        move ! (20 ∷ 21 ∷ []) $ called ! (y ∷ x ∷ []) known is-h (λ _. (and_then ! (load ! (from ! (stop !)) (look ! 9 refl)) (and_then ! (load ! (from ! (stop !)) (look ! 15 refl)) (and_then ! (load ! (from ! (stop !)) (look ! 5 refl)) (no_more !))))) (λ v r is-r.
+        assigns ! (of_opd ! (load ! (from ! (hop ! (look ! 16 refl) (stop !))) (look_raw ! 0 refl))) (from ! (stop !)) (init ! 10 refl (s.fits h _ is-h)) $
+        assigns ! (addr ! (from ! (fld ! refl (hop ! (look_in ! 14 (sub ! 0 refl (whole !))) (stop !))))) (from ! (stop !)) (init ! 8 refl (tt, tt)) $
+        assigns ! (agg ! (and_then ! (load ! (from ! (stop !)) (look ! 8 refl)) (and_then ! (load ! (from ! (fld ! refl (stop !))) (look_in ! 14 (sub ! 1 refl (whole !)))) (no_more !)))) (from ! (stop !)) (init ! 6 refl (tt, (tt, (record { fits = fits }, tt)))) $
+        move ! (20 ∷ 21 ∷ []) $ called ! (x ∷ []) known is-h (λ _. (and_then ! (load ! (from ! (stop !)) (look ! 11 refl)) (and_then ! (load ! (from ! (stop !)) (look ! 7 refl)) (no_more !)))) (λ v r is-r.
         -- [the other tokens; what is said of the reply; the cell; the open borrow; obs; auth]
-        land ! (from ! (stop !)) (init ! 12 refl (p.fits r v is-r)) $ rewrite ! 12 (λ (w : Val). ‵ (fat full_share ρ l₄ 0 w)) (ap only (p.tells r _ is-r)) refl $
+        land ! (from ! (stop !)) (init ! 14 refl (p.fits r v is-r)) $ rewrite ! 14 (λ (w : Val). ‵ (fat full_share ρ l₃ 0 w)) (ap only (p.tells r _ is-r)) refl $
         let (is-s, is-a) = p.parts r v is-r in
-        assigns ! (of_opd ! (load ! (from ! (fld ! refl (stop !))) (look_in ! 12 (sub ! 0 refl (whole !))))) (from ! (hop ! (look ! 18 refl) (stop !))) (store_raw ! 2 refl (s.fits (p.stream r) _ is-s)) $
-        assigns ! (of_opd ! (load ! (from ! (fld ! refl (stop !))) (look_in ! 12 (sub ! 1 refl (whole !))))) (from ! (stop !)) (init ! 20 refl (n.fits (p.answer r) _ is-a)) $
+        assigns ! (of_opd ! (load ! (from ! (fld ! refl (stop !))) (look_in ! 14 (sub ! 0 refl (whole !))))) (from ! (stop !)) (init ! 6 refl (s.fits (p.stream r) _ is-s)) $
+        assigns ! (of_opd ! (load ! (from ! (stop !)) (look ! 6 refl))) (from ! (hop ! (look ! 18 refl) (stop !))) (store_raw ! 2 refl (s.fits (p.stream r) _ is-s)) $
+        assigns ! (of_opd ! (load ! (from ! (fld ! refl (stop !))) (look_in ! 14 (sub ! 1 refl (whole !))))) (from ! (stop !)) (init ! 20 refl (n.fits (p.answer r) _ is-a)) $
         move ! (2 ∷ 3 ∷ 4 ∷ 5 ∷ []) $ closed ! tt (p.stream r) is-s $
         -- [obs; the borrow; the token; the other tokens; what is said of the reply]
         returns ! (look ! 19 refl) $ forget ! 19 refl $ forget ! 17 refl $ forget ! 15 refl $ forget ! 13 refl $ forget ! 11 refl $ forget ! 9 refl $ forget ! 7 refl $ forget ! 5 refl $
         move ! (19 ∷ 20 ∷ []) $ free1 ! $ move ! (17 ∷ 18 ∷ []) $ free1 ! $ move ! (15 ∷ 16 ∷ []) $ free1 ! $ move ! (13 ∷ 14 ∷ []) $ free1 ! $ move ! (11 ∷ 12 ∷ []) $ free1 ! $ move ! (9 ∷ 10 ∷ []) $ free1 ! $ move ! (7 ∷ 8 ∷ []) $ free1 ! $ move ! (5 ∷ 6 ∷ []) $ free1 ! $ free0 ! $
         by ! (ends r is-a)))))))))))
 
+    -- f(s, y, x) calls g(*s, y, x), x being a `&mut [T]`
+    pub value-slice : (k : ℕ) (ℓ : Lifetime) (τ : Ty) (y : Val) → Fits τ y → Meets (y ∷ x ∷ []) → Walks (value-slice-lent s.mir n.mir ρ π k ℓ τ ε g) (y ∷ x ∷ [])
+    value-slice k ℓ τ y fits-y known =
+        qed 𝓛 entry ∵ starts ! $ enter ! C Λ _ (vptr b o ∷ y ∷ x ∷ []) _ $ alloc1 ! (λ l₀. alloc1 ! (λ l₁. alloc1 ! (λ l₂. alloc1 ! (λ l₃. alloc1 ! (λ l₄. alloc1 ! (λ l₅. alloc1 ! (λ l₆. alloc1 ! (λ l₇. alloc1 ! (λ l₈. alloc0 ! $
+        params1 ! $ pass1 ! (init ! 14 refl (tt, tt)) $ pass1 ! (init ! 12 refl fits-y) $ pass1 ! (init ! 10 refl (tt, (tt, (record { fits = fits }, tt)))) $ pass0 ! $
+        move ! (18 ∷ 19 ∷ 20 ∷ []) $ opened ! tt (λ is-h.
+        -- [the cell; the open borrow; obs; auth; ..; what is passed beside the record; the other tokens]
+        assigns ! (of_opd ! (load ! (from ! (hop ! (look ! 18 refl) (stop !))) (look_raw ! 0 refl))) (from ! (stop !)) (init ! 10 refl (s.fits h _ is-h)) $
+        assigns ! (addr ! (from ! (fld ! refl (hop ! (look_in ! 14 (sub ! 0 refl (whole !))) (stop !))))) (from ! (stop !)) (init ! 8 refl (tt, tt)) $
+        assigns ! (agg ! (and_then ! (load ! (from ! (stop !)) (look ! 8 refl)) (and_then ! (load ! (from ! (fld ! refl (stop !))) (look_in ! 14 (sub ! 1 refl (whole !)))) (no_more !)))) (from ! (stop !)) (init ! 6 refl (tt, (tt, (record { fits = fits }, tt)))) $
+        move ! (22 ∷ 23 ∷ []) $ called ! (y ∷ x ∷ []) known is-h (λ _. (and_then ! (load ! (from ! (stop !)) (look ! 11 refl)) (and_then ! (load ! (from ! (stop !)) (look ! 17 refl)) (and_then ! (load ! (from ! (stop !)) (look ! 7 refl)) (no_more !))))) (λ v r is-r.
+        -- [the other tokens; what is said of the reply; the cell; the open borrow; obs; auth]
+        land ! (from ! (stop !)) (init ! 14 refl (p.fits r v is-r)) $ rewrite ! 14 (λ (w : Val). ‵ (fat full_share ρ l₄ 0 w)) (ap only (p.tells r _ is-r)) refl $
+        let (is-s, is-a) = p.parts r v is-r in
+        assigns ! (of_opd ! (load ! (from ! (fld ! refl (stop !))) (look_in ! 14 (sub ! 0 refl (whole !))))) (from ! (stop !)) (init ! 6 refl (s.fits (p.stream r) _ is-s)) $
+        assigns ! (of_opd ! (load ! (from ! (stop !)) (look ! 6 refl))) (from ! (hop ! (look ! 20 refl) (stop !))) (store_raw ! 2 refl (s.fits (p.stream r) _ is-s)) $
+        assigns ! (of_opd ! (load ! (from ! (fld ! refl (stop !))) (look_in ! 14 (sub ! 1 refl (whole !))))) (from ! (stop !)) (init ! 22 refl (n.fits (p.answer r) _ is-a)) $
+        move ! (2 ∷ 3 ∷ 4 ∷ 5 ∷ []) $ closed ! tt (p.stream r) is-s $
+        -- [obs; the borrow; the token; the other tokens; what is said of the reply]
+        returns ! (look ! 21 refl) $ forget ! 21 refl $ forget ! 19 refl $ forget ! 17 refl $ forget ! 15 refl $ forget ! 13 refl $ forget ! 11 refl $ forget ! 9 refl $ forget ! 7 refl $ forget ! 5 refl $
+        move ! (21 ∷ 22 ∷ []) $ free1 ! $ move ! (19 ∷ 20 ∷ []) $ free1 ! $ move ! (17 ∷ 18 ∷ []) $ free1 ! $ move ! (15 ∷ 16 ∷ []) $ free1 ! $ move ! (13 ∷ 14 ∷ []) $ free1 ! $ move ! (11 ∷ 12 ∷ []) $ free1 ! $ move ! (9 ∷ 10 ∷ []) $ free1 ! $ move ! (7 ∷ 8 ∷ []) $ free1 ! $ move ! (5 ∷ 6 ∷ []) $ free1 ! $ free0 ! $
+        by ! (ends r is-a))))))))))))
+
   -- f(s, y, z) calls g(*s, y, z)
   pub two-values : (τ τ' : Ty) (y z : Val) → Fits τ y → Fits τ' z → Meets (y ∷ z ∷ []) → Walks (two-values-lent s.mir n.mir ρ π τ τ' g) (y ∷ z ∷ [])
   two-values τ τ' y z fits-y fits-z known =
-      qed 𝓛 entry ∵ starts ! $ enter ! C Λ _ (vptr b o ∷ y ∷ z ∷ []) _ $ alloc1 ! (λ l₀. alloc1 ! (λ l₁. alloc1 ! (λ l₂. alloc1 ! (λ l₃. alloc1 ! (λ l₄. alloc1 ! (λ l₅. alloc0 ! $
-      params1 ! $ pass1 ! (init ! 8 refl (tt, tt)) $ pass1 ! (init ! 6 refl fits-y) $ pass1 ! (init ! 4 refl fits-z) $ pass0 ! $
-      move ! (12 ∷ 13 ∷ 14 ∷ []) $ opened ! tt (λ is-h.
+      qed 𝓛 entry ∵ starts ! $ enter ! C Λ _ (vptr b o ∷ y ∷ z ∷ []) _ $ alloc1 ! (λ l₀. alloc1 ! (λ l₁. alloc1 ! (λ l₂. alloc1 ! (λ l₃. alloc1 ! (λ l₄. alloc1 ! (λ l₅. alloc1 ! (λ l₆. alloc0 ! $
+      params1 ! $ pass1 ! (init ! 10 refl (tt, tt)) $ pass1 ! (init ! 8 refl fits-y) $ pass1 ! (init ! 6 refl fits-z) $ pass0 ! $
+      move ! (14 ∷ 15 ∷ 16 ∷ []) $ opened ! tt (λ is-h.
       -- [the cell; the open borrow; obs; auth; ..; what is passed beside the record; the other tokens]
-      assigns ! (of_opd ! (load ! (from ! (hop ! (look ! 12 refl) (stop !))) (look_raw ! 0 refl))) (from ! (stop !)) (init ! 4 refl (s.fits h _ is-h)) $
-      move ! (16 ∷ 17 ∷ []) $ called ! (y ∷ z ∷ []) known is-h (λ _. (and_then ! (load ! (from ! (stop !)) (look ! 5 refl)) (and_then ! (load ! (from ! (stop !)) (look ! 11 refl)) (and_then ! (load ! (from ! (stop !)) (look ! 9 refl)) (no_more !))))) (λ v r is-r.
+      assigns ! (of_opd ! (load ! (from ! (hop ! (look ! 14 refl) (stop !))) (look_raw ! 0 refl))) (from ! (stop !)) (init ! 6 refl (s.fits h _ is-h)) $
+      move ! (18 ∷ 19 ∷ []) $ called ! (y ∷ z ∷ []) known is-h (λ _. (and_then ! (load ! (from ! (stop !)) (look ! 7 refl)) (and_then ! (load ! (from ! (stop !)) (look ! 13 refl)) (and_then ! (load ! (from ! (stop !)) (look ! 11 refl)) (no_more !))))) (λ v r is-r.
       -- [the other tokens; what is said of the reply; the cell; the open borrow; obs; auth]
-      land ! (from ! (stop !)) (init ! 8 refl (p.fits r v is-r)) $ rewrite ! 8 (λ (w : Val). ‵ (fat full_share ρ l₄ 0 w)) (ap only (p.tells r _ is-r)) refl $
+      land ! (from ! (stop !)) (init ! 10 refl (p.fits r v is-r)) $ rewrite ! 10 (λ (w : Val). ‵ (fat full_share ρ l₄ 0 w)) (ap only (p.tells r _ is-r)) refl $
       let (is-s, is-a) = p.parts r v is-r in
-      assigns ! (of_opd ! (load ! (from ! (fld ! refl (stop !))) (look_in ! 8 (sub ! 0 refl (whole !))))) (from ! (hop ! (look ! 14 refl) (stop !))) (store_raw ! 2 refl (s.fits (p.stream r) _ is-s)) $
-      assigns ! (of_opd ! (load ! (from ! (fld ! refl (stop !))) (look_in ! 8 (sub ! 1 refl (whole !))))) (from ! (stop !)) (init ! 16 refl (n.fits (p.answer r) _ is-a)) $
+      assigns ! (of_opd ! (load ! (from ! (fld ! refl (stop !))) (look_in ! 10 (sub ! 0 refl (whole !))))) (from ! (stop !)) (init ! 6 refl (s.fits (p.stream r) _ is-s)) $
+      assigns ! (of_opd ! (load ! (from ! (stop !)) (look ! 6 refl))) (from ! (hop ! (look ! 16 refl) (stop !))) (store_raw ! 2 refl (s.fits (p.stream r) _ is-s)) $
+      assigns ! (of_opd ! (load ! (from ! (fld ! refl (stop !))) (look_in ! 10 (sub ! 1 refl (whole !))))) (from ! (stop !)) (init ! 18 refl (n.fits (p.answer r) _ is-a)) $
       move ! (2 ∷ 3 ∷ 4 ∷ 5 ∷ []) $ closed ! tt (p.stream r) is-s $
       -- [obs; the borrow; the token; the other tokens; what is said of the reply]
-      returns ! (look ! 15 refl) $ forget ! 15 refl $ forget ! 13 refl $ forget ! 11 refl $ forget ! 9 refl $ forget ! 7 refl $ forget ! 5 refl $
-      move ! (15 ∷ 16 ∷ []) $ free1 ! $ move ! (13 ∷ 14 ∷ []) $ free1 ! $ move ! (11 ∷ 12 ∷ []) $ free1 ! $ move ! (9 ∷ 10 ∷ []) $ free1 ! $ move ! (7 ∷ 8 ∷ []) $ free1 ! $ move ! (5 ∷ 6 ∷ []) $ free1 ! $ free0 ! $
-      by ! (ends r is-a)))))))))
+      returns ! (look ! 17 refl) $ forget ! 17 refl $ forget ! 15 refl $ forget ! 13 refl $ forget ! 11 refl $ forget ! 9 refl $ forget ! 7 refl $ forget ! 5 refl $
+      move ! (17 ∷ 18 ∷ []) $ free1 ! $ move ! (15 ∷ 16 ∷ []) $ free1 ! $ move ! (13 ∷ 14 ∷ []) $ free1 ! $ move ! (11 ∷ 12 ∷ []) $ free1 ! $ move ! (9 ∷ 10 ∷ []) $ free1 ! $ move ! (7 ∷ 8 ∷ []) $ free1 ! $ move ! (5 ∷ 6 ∷ []) $ free1 ! $ free0 ! $
+      by ! (ends r is-a))))))))))
