@@ -1,6 +1,7 @@
 -- The record that stands in the bytes of an image, and which bytes are one. A number that no image has is read as anything: the bytes are
 -- compared with the image of what was read.
-use Rattle.std.specs.Prelude.{ℕ, ◌+◌, ◌-◌, ◌*◌, ◌%◌, ◌≤◌, min, ◌≡◌, Bool, cond, ◌&&◌, List, [], ◌∷◌, ◌++◌, map, eqb, length, get_or, replicate}
+use Rattle.std.specs.Prelude.{ℕ, ◌+◌, ◌-◌, ◌*◌, ◌%◌, ◌≤◌, min, ◌≡◌, Bool, cond, ◌&&◌}
+use Rattle.std.specs.Prelude.{List, [], ◌∷◌, ◌++◌, map, eqb, length, get_or, replicate}
 use Rattle.sys.specs.Bytes.{part, field}
 use Rattle.layout.specs.declared.Setup.{Setup}
 use Rattle.layout.specs.Numbers.{setup_from}
