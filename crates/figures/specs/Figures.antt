@@ -54,7 +54,7 @@ unfoldable pub derive_from_c : ℤ → ℕ → ℕ → ℕ → ℕ → ℕ → L
 derive_from_c speed b_interval bytes urbs us packets out =
     schedule_figures (derived (from_raw speed) b_interval bytes (depth_from urbs us) (Packets.Given packets)) out
 
--- plan looks at an endpoint's attributes, wMaxPacketSize and b_interval, not at its address.
+-- plan looks at an endpoint's attributes, wMaxPacketSize and bInterval, not at its address.
 unfoldable pub plan_from_c : ℤ → ℕ → ℕ → ℕ → ℕ → ℕ → ℕ → List ℕ → Figures
 plan_from_c speed attributes size b_interval urbs us packets out =
     let endpoint : Endpoint = record { address = 0; attributes = attributes; max_packet_size = size; interval = b_interval } in
