@@ -48,7 +48,8 @@ fn slot_capacity(setup: Setup) -> usize
 // Internal: ends a commit whose lengths are written. The host is to submit the slot.
 fn send(s: Stream, i: usize) -> Reply
     requires { (sound s ≡ true) × (s.hand ≡ Hand.Held i) }
-    ensures { Gives s (record { ledger = with_hand (Hand.Sending i) (view s); answer = Answer.Submit i; lent = [] }) result [] }
+    ensures { Gives s
+        (record { ledger = with_hand (Hand.Sending i) (view s); answer = Answer.Submit i; lent = [] }) result [] }
 {
     Reply {
         stream: with_hand(s, s.ring, Hand::Sending(i)),
