@@ -1,5 +1,5 @@
 // The ten calls by value, by way of the lent ones: each lends its record to the call and hands it back. For
-// programs: the prover's own walk covers no function that makes a `&mut Stream`.
+// programs that keep their record by value.
 ghost use Rattle.std.specs.Prelude.{[]};
 ghost use Rattle.ledger.specs.Calls.{Call};
 ghost use Rattle.ledger.specs.Told.{Told};
