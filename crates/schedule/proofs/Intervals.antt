@@ -2,7 +2,7 @@
 -- Assumes nothing.
 use mathlib.Core.Path.{◌≡◌, refl, sym, ap, ◌∙◌}
 use Prim.Native.Nat.{ℕ, ◌-◌, ◌*◌, ◌%◌, ◌^◌, ◌≤◌, ◌<◌, min}
-use native.Mathlib.Nat.{mul-pos, one-mul}
+use native.Mathlib.Nat.{mul-le-mul, mul-pos, one-mul}
 use native.Mathlib.Omega.{arith}
 use lib.Pow.{shl_exact, pow_pos}
 use lib.Dec.{lit<, ltb}
@@ -30,7 +30,7 @@ base-of Speed.Super base e = let z : base ≡ 125 = cc in omega arith
 base-of Speed.SuperPlus base e = let z : base ≡ 125 = cc in omega arith
 
 -- the cap on the multiplier is not zero, and at most 32768
-cap-bounds : (s : Speed) → (0 < max_intervals s) × (max_intervals s ≤ 32768)
+pub cap-bounds : (s : Speed) → (0 < max_intervals s) × (max_intervals s ≤ 32768)
 cap-bounds Speed.Unknown = omega arith
 cap-bounds Speed.Low = omega arith
 cap-bounds Speed.Full = omega arith
@@ -42,6 +42,13 @@ cap-bounds Speed.SuperPlus = omega arith
 -- 1 << k at 32 bits
 pub shifted : (k : ℕ) → k < 16 → (1 * 2 ^ k) % 2 ^ 32 ≡ 2 ^ k
 shifted k h = shl_exact 1 k 32 (lit< tt) (omega arith) ∙ one-mul (2 ^ k)
+
+-- a service interval times its multiplier fits 32 bits
+pub interval-fits : (base most m : ℕ) → base ≤ 1000 → most ≤ 32768 → m ≤ most → base * m < 2 ^ 32
+interval-fits base most m p q r =
+    let k : m ≤ 32768 = omega arith in
+    let h : base * m ≤ 1000 * 32768 = mul-le-mul p k in
+    omega arith
 
 some-interval : (p q : Bool) (e : Error) (m us : ℕ) → 0 < m → cond p (Interval.Refused e) (cond q (Interval.Refused e) (Interval.Micros m)) ≡ Interval.Micros us → 0 < us
 some-interval true q e m us h k = let z : ◌≡◌ {A = ℕ} 0 1 = cc in omega arith
