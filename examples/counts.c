@@ -52,8 +52,10 @@ bool write_counts(const char *path, const struct counts *counts)
     fprintf(file, "played %" PRIu64 "\nshort %" PRIu64 "\n", counts->played, counts->short_of);
     fprintf(file, "errors %" PRIu64 "\ngaps %" PRIu64 "\n", counts->errors, counts->gaps);
     fprintf(file, "played_ms %" PRIu64 "\nall_ms %" PRIu64 "\n", counts->played_ms, counts->all_ms);
-    fprintf(file, "message_ms %" PRIu64 "\nmessage_all_ms %" PRIu64 "\nend\n", counts->message_ms,
-            counts->message_all_ms);
+    if (counts->message_all_ms > 0)
+        fprintf(file, "message_ms %" PRIu64 "\nmessage_all_ms %" PRIu64 "\n", counts->message_ms,
+                counts->message_all_ms);
+    fprintf(file, "end\n");
     bool is_written = !ferror(file);
     return fclose(file) == 0 && is_written && rename(beside, path) == 0;
 }
@@ -68,14 +70,18 @@ static bool read_counts(const char *path, struct counts *counts)
     int numbers = fscanf(file,
                          "taken %" SCNd64 " running %d sent %" SCNu64 " back %" SCNu64 " played %" SCNu64
                          " short %" SCNu64 " errors %" SCNu64 " gaps %" SCNu64 " played_ms %" SCNu64
-                         " all_ms %" SCNu64 " message_ms %" SCNu64 " message_all_ms %" SCNu64 " end%n",
+                         " all_ms %" SCNu64,
                          &counts->taken, &running, &counts->sent, &counts->back, &counts->played, &counts->short_of,
-                         &counts->errors, &counts->gaps, &counts->played_ms, &counts->all_ms, &counts->message_ms,
-                         &counts->message_all_ms, &is_whole);
+                         &counts->errors, &counts->gaps, &counts->played_ms, &counts->all_ms);
+    counts->message_ms = counts->message_all_ms = 0;
+    int of_message = fscanf(file, " message_ms %" SCNu64 " message_all_ms %" SCNu64, &counts->message_ms,
+                            &counts->message_all_ms);
+    if (fscanf(file, " end%n", &is_whole) != 0)
+        is_whole = 0;
     fclose(file);
     counts->is_running = running == 1;
     errno = 0;
-    return numbers == 12 && is_whole > 0;
+    return numbers == 10 && (of_message == 0 || of_message == 2) && is_whole > 0;
 }
 
 enum news { NO_COUNTS, NO_NEWS, RUNNING, ENDED };

@@ -42,7 +42,7 @@ static bool add_event(struct events *events, enum event_kind kind, int64_t at, i
     return true;
 }
 
-/* Up to five events of any kind in the first two seconds. A message is called for twice, within a second. */
+/* Up to five events of any kind in the first two seconds; and up to twice a message, called for twice within a second. */
 static void events_from_seed(struct events *events, uint64_t seed)
 {
     static const int errnos[] = {ENODEV, ENOMEM, EACCES, EPERM, ENOTTY, EINVAL, ENOSPC, ESHUTDOWN};
@@ -51,8 +51,7 @@ static void events_from_seed(struct events *events, uint64_t seed)
     for (int k = 0; k < 8; k++)
         next_random(&random);
     for (uint64_t left = next_random(&random) % 6; left > 0; left--) {
-        static const enum event_kind kinds[] = {SHUFFLE,   LATE, SHORT,   LOST,   REFUSE,
-                                                INTERRUPT, PULL, MESSAGE, MESSAGE};
+        static const enum event_kind kinds[] = {SHUFFLE, LATE, SHORT, LOST, REFUSE, INTERRUPT, PULL};
         enum event_kind kind = kinds[next_random(&random) % (sizeof kinds / sizeof kinds[0])];
         int64_t at = (int64_t)(next_random(&random) % 2000), number = 1;
         if (kind == REFUSE)
@@ -62,8 +61,11 @@ static void events_from_seed(struct events *events, uint64_t seed)
         if (kind == LATE && next_random(&random) % 8 == 0)
             number *= 20; /* longer than a player has patience */
         add_event(events, kind, at, number);
-        if (kind == MESSAGE)
-            add_event(events, kind, at + (int64_t)(next_random(&random) % 1000), number);
+    }
+    for (uint64_t left = next_random(&random) % 3; left > 0; left--) {
+        int64_t at = (int64_t)(next_random(&random) % 2000);
+        add_event(events, MESSAGE, at, 1);
+        add_event(events, MESSAGE, at + (int64_t)(next_random(&random) % 1000), 1);
     }
 }
 

@@ -301,7 +301,8 @@ uint32_t usbfs_iso_stretch(const void *programme, size_t programme_len, const vo
 
 /*
  * A refusal's name, and what it means in words. As snprintf does, these write a string with its closing zero, cut to
- * text_len bytes in all, and return the length of the whole string. A number that is no refusal has "", of length 0.
+ * text_len bytes in all, and return the length of the whole string. A number that is no refusal has "", of length 0;
+ * and so has 34 as yet.
  */
 uint64_t usbfs_iso_refusal_name(uint32_t number, void *text, size_t text_len);
 uint64_t usbfs_iso_refusal_text(uint32_t number, void *text, size_t text_len);

@@ -7,18 +7,24 @@
 #include <stdio.h>
 #include <string.h>
 
-enum { NUMBERS = 12 };
+enum { NUMBERS = 12, OF_THE_SOUND = 10 };
 enum place { TAKEN, RUNNING, SENT, BACK, PLAYED, SHORT, ERRORS, GAPS, PLAYED_MS, ALL_MS, MESSAGE_MS, MESSAGE_ALL_MS };
 static const char *const names[NUMBERS] = {"taken",  "running", "sent",      "back",   "played",     "short",
                                            "errors", "gaps",    "played_ms", "all_ms", "message_ms", "message_all_ms"};
 
-/* Reads the lines in their order, and nothing behind "end". */
+/* Reads the lines in their order, those of the message if they are there, and nothing behind "end". */
 static int read_counts(FILE *file, uint64_t *numbers)
 {
     char name[20], end[8] = "";
-    for (int k = 0; k < NUMBERS; k++)
-        if (fscanf(file, "%19s %" SCNu64, name, &numbers[k]) != 2 || strcmp(name, names[k]) != 0)
+    numbers[MESSAGE_MS] = numbers[MESSAGE_ALL_MS] = 0;
+    for (int k = 0; k < NUMBERS; k++) {
+        if (fscanf(file, "%19s", name) != 1)
             return 0;
+        if (k == OF_THE_SOUND && strcmp(name, "end") == 0)
+            return fread(end, 1, sizeof end, file) == 1 && end[0] == '\n';
+        if (fscanf(file, "%" SCNu64, &numbers[k]) != 1 || strcmp(name, names[k]) != 0)
+            return 0;
+    }
     return fread(end, 1, sizeof end, file) == 5 && memcmp(end, "\nend\n", 5) == 0;
 }
 

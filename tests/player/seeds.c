@@ -117,6 +117,13 @@ static void check_said(const struct trial *c, const struct said *said, int statu
     check_heard(c, sent, is_whole, is_harmless(c, true));
     check_that(said->all == ms_of(c, c->frames, all), "how long the sound is");
     check_that(said->all_message == ms_of(c, c->message_frames, all_message), "how long the message is, as often as called for");
+    if (c->message_frames == 0) {
+        check_that((said->ending == ALL_PLAYED) == (simulated_account.played == all && back == all),
+                   "the sound alone was all played exactly if the player says so");
+        check_that((simulated_account.played == all && back == all) ||
+                       said->played == back / c->frame_bytes * 1000 / c->rate,
+                   "how much of the sound alone was played");
+    }
     if (simulated_account.out > 0)
         return; /* what has been heard and is not back is not said to be played */
     check_that((said->ending == ALL_PLAYED) == (sound == all), "all was played exactly if the player says so");

@@ -15,7 +15,7 @@ use layout::{Setup, Underrun};
 use schedule::{Depth, Derived, Packets, Schedule, Speed};
 use stream::{Answer, Stream};
 
-// The endpoint's b_interval, where it is known.
+// The endpoint's bInterval, where it is known.
 #[derive(Clone, Copy)]
 pub enum BInterval {
     Unknown,

@@ -1,4 +1,4 @@
-// Derives and prints the schedule of the shop's ring (Full speed, b_interval 1, 192 bytes a packet, 8 packets a URB,
+// Derives and prints the schedule of the shop's ring (Full speed, bInterval 1, 192 bytes a packet, 8 packets a URB,
 // 8 URBs), and how many URBs a depth of 0 gives.
 #![tactic(auto)]
 

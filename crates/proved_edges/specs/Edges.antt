@@ -189,7 +189,7 @@ pub record Edges : Type 0 where
   pub address-65689 : notice_on 65689 ≡ Answer.Foreign
   pub address-66144 : notice_on 66144 ≡ Answer.Foreign
   pub address-65535 : notice_on 65535 ≡ Answer.Foreign
-  -- High, b_interval 4, 20 ms, 8 packets: 1000 µs, 3 URBs.
+  -- High, bInterval 4, 20 ms, 8 packets: 1000 µs, 3 URBs.
   pub high-20-ms :
       derived Speed.High 4 192 (Depth.Millis 20) (Packets.Given 8)
       ≡ Derived.Schedule

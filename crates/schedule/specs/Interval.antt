@@ -1,4 +1,4 @@
--- packet_interval_us: refusals 21 and 22, then base × 2^(b_interval - 1), the multiplier capped.
+-- packet_interval_us: refusals 21 and 22, then base × 2^(bInterval - 1), the multiplier capped.
 use Rattle.std.specs.Prelude.{ℕ, ◌-◌, ◌*◌, ◌^◌, min, cond, ltb}
 use Rattle.error.specs.declared.Error.{Error}
 use Rattle.schedule.specs.declared.speed.Speed.{Speed}
@@ -6,11 +6,11 @@ use Rattle.schedule.specs.declared.speed.ServiceInterval.{ServiceInterval}
 use Rattle.schedule.specs.declared.interval.Interval.{Interval}
 use Rattle.schedule.specs.Speed.{service_interval_us, max_intervals}
 
--- b_interval is an exponent: 2^(b_interval - 1) service intervals, at most the cap.
+-- bInterval is an exponent: 2^(bInterval - 1) service intervals, at most the cap.
 abbrev pub multiplier : ℕ → ℕ → ℕ
 multiplier b_interval cap = min (2 ^ (b_interval - 1)) cap
 
--- 21 without a base; 22 for a b_interval outside 1..16; else the base times the multiplier.
+-- 21 without a base; 22 for a bInterval outside 1..16; else the base times the multiplier.
 unfoldable pub interval_from : ServiceInterval → ℕ → ℕ → Interval
 interval_from ServiceInterval.Unsupported b_interval cap = Interval.Refused Error.UnsupportedSpeed
 interval_from (ServiceInterval.Micros base) b_interval cap =

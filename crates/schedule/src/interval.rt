@@ -19,7 +19,7 @@ fn min(a: u32, b: u32) -> u32
     if a < b { a } else { b }
 }
 
-// b_interval is an exponent: the period is 2^(b_interval - 1) service intervals, capped.
+// bInterval is an exponent: the period is 2^(bInterval - 1) service intervals, capped.
 pub fn packet_interval_us(speed: Speed, b_interval: u8) -> Interval
     ensures { result ≡ packet_interval_us speed b_interval }
 {
