@@ -30,6 +30,7 @@ pub fn with_hand(s: Stream, ring: Ring, hand: Hand) -> Stream
 
 // Internal: slot i, which is in hand, goes to the queue's end, as the Rust's Slot does when it is dropped, and the
 // hand is Idle.
+#[cold]
 pub fn put_back(s: Stream, i: usize, answer: Answer) -> Reply
     requires { (sound s ≡ true) × (holds s.hand i ≡ true) }
     ensures { Gives s (put_back i answer (view s) []) result [] }

@@ -68,6 +68,7 @@ fn set_packet(block: &mut [u8], at: usize, bytes: usize)
 
 // Internal: writes one descriptor a packet from `at` on, with `bytes` shared out from the first on, at most `most` a
 // packet.
+#[inline(never)]
 fn write_shares(block: &mut [u8], at: usize, packets: usize, most: usize, bytes: usize)
     requires { (at + desc_size * packets ≤ length block.old) × (most < 2 ^ 32) }
     ensures { block.new ≡ store at (descriptors (shares packets most bytes)) block.old }

@@ -19,6 +19,7 @@ fn fill(payload: &mut [u8], byte: u8)
 
 // Internal: fills slot i's capacity with the silence byte and commits all of it. The filler is lent the payload and
 // no other byte.
+#[cold]
 pub fn fill_silence(setup: Setup, block: &mut [u8], i: usize)
     requires { (admissible setup ≡ true) × (i < setup.slots) × (length block.old ≡ total_of setup) }
     ensures { block.new
