@@ -27,14 +27,12 @@ pub fn setup(slots: usize, packets: usize, packet_bytes: usize, base: usize) -> 
 
 // The place after i, and the first after the last.
 pub fn next(i: usize, places: usize) -> usize {
-    if i < places && i + 1 < places {
-        i + 1
-    } else {
-        0
-    }
+    let after = std::num::wrapping_add_usize(i, 1);
+    if after < places { after } else { 0 }
 }
 
 // The address in its place; 0 where there is none.
+#[inline(never)]
 pub fn address_at(addresses: &[usize], i: usize) -> usize {
     if i < addresses.len() { addresses[i] } else { 0 }
 }

@@ -3,6 +3,7 @@
 
 // Opens a ring, sends all slots, and makes the rounds that follow. How many slots came back.
 #[unsafe(no_mangle)]
+#[inline(never)]
 pub extern "C" fn usbfs_iso_cycles(
     packets: usize,
     packet_bytes: usize,

@@ -147,6 +147,7 @@ impl Mask {
     }
 
     // Without place i.
+    #[inline(always)]
     pub fn without(self, i: usize) -> Mask
         ensures { result ≡ mask_of (λ j. member self j && not (eqb i j)) }
     {
