@@ -12,5 +12,12 @@ pub extern "C" fn usbfs_iso_cycles(
     rounds_in_all: usize,
     block: &mut [u8],
 ) -> u64 {
-    bench::usbfs_iso_cycles(packets, packet_bytes, base, addresses, rounds_in_all, block)
+    bench::usbfs_iso_cycles::<bench::ByValue>(
+        packets,
+        packet_bytes,
+        base,
+        addresses,
+        rounds_in_all,
+        block,
+    )
 }

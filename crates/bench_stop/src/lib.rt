@@ -2,26 +2,23 @@
 // the same slots each time. These functions promise that they are safe and end.
 #![tactic(auto)]
 
-use bench::{address_at, rounds, setup};
+use bench::{ByValue, rounds, setup};
 use control::stop;
 use opening::open;
 use reaped::reaped;
-use stream::{Answer, Reaping, Reply, Stream};
+use stream::{Answer, Reply, Stream};
 
 // The slots at these addresses come back.
-fn take_back(s: Stream, addresses: &[usize], block: &[u8]) -> Stream {
-    let mut stream = s;
-    for i in 0..addresses.len() {
-        let done = reaped(stream, Reaping::Address(address_at(addresses, i)), block);
-        stream = done.stream;
+fn take_back(mut s: Stream, addresses: &[usize], block: &[u8]) -> Stream {
+    for &address in addresses {
+        s = reaped(s, Ok(address), block).stream;
     }
-    stream
+    s
 }
 
 // How many slots a stop listed.
 fn listed(reply: Reply) -> usize {
-    let answer = reply.answer;
-    if let Answer::Stopped(count) = answer {
+    if let Answer::Stopped(count) = reply.answer {
         count
     } else {
         0
@@ -31,7 +28,7 @@ fn listed(reply: Reply) -> usize {
 // That many stops. How many slots the last one listed.
 fn stops(s: Stream, count: usize, list: &mut [usize]) -> usize {
     let mut found = 0;
-    for k in 0..count {
+    for _ in 0..count {
         found = listed(stop(s, list));
     }
     found
@@ -51,6 +48,6 @@ pub extern "C" fn usbfs_iso_stops(
 ) -> usize {
     let slots = addresses.len();
     let opened = open(setup(slots, packets, packet_bytes, base), block);
-    let sent = rounds(opened.stream, addresses, slots, block);
+    let sent = rounds::<ByValue>(opened.stream, addresses, slots, block);
     stops(take_back(sent, back, block), count, list)
 }

@@ -1,12 +1,8 @@
 -- A builder with one of its values set. Only this file lists its fields.
-use Rattle.std.specs.Prelude.{ℕ}
+use Rattle.std.specs.Prelude.{ℕ, Some, None}
 use Rattle.layout.specs.declared.Underrun.{Underrun}
 use Rattle.schedule.specs.declared.speed.Speed.{Speed}
 use Rattle.schedule.specs.declared.Depth.{Depth}
-use Rattle.schedule.specs.declared.Packets.{Packets}
-use Rattle.builder.specs.declared.BInterval.{BInterval}
-use Rattle.builder.specs.declared.PacketSize.{PacketSize}
-use Rattle.builder.specs.declared.PacketBytes.{PacketBytes}
 use Rattle.builder.specs.declared.IsoOutBuilder.{IsoOutBuilder}
 
 -- The Rust's defaults: 8 ms, Continue, silence byte 0; frames of one byte, as before request 2026-04; the rest is unknown or absent.
@@ -14,11 +10,11 @@ abbrev pub new_builder : ℕ → Speed → IsoOutBuilder
 new_builder endpoint speed =
     record {
       endpoint = endpoint;
-      max_packet_size = PacketSize.Unknown;
-      interval = BInterval.Unknown;
+      max_packet_size = None;
+      interval = None;
       speed = speed;
-      packet_bytes = PacketBytes.Absent;
-      packets_per_urb = Packets.Absent;
+      packet_bytes = None;
+      packets_per_urb = None;
       depth = Depth.Millis 8;
       underrun = Underrun.Continue;
       silence_byte = 0;
@@ -29,7 +25,7 @@ abbrev pub with_max_packet_size : ℕ → IsoOutBuilder → IsoOutBuilder
 with_max_packet_size bytes b =
     record {
       endpoint = b.endpoint;
-      max_packet_size = PacketSize.Bytes bytes;
+      max_packet_size = Some bytes;
       interval = b.interval;
       speed = b.speed;
       packet_bytes = b.packet_bytes;
@@ -45,7 +41,7 @@ with_interval b_interval b =
     record {
       endpoint = b.endpoint;
       max_packet_size = b.max_packet_size;
-      interval = BInterval.Given b_interval;
+      interval = Some b_interval;
       speed = b.speed;
       packet_bytes = b.packet_bytes;
       packets_per_urb = b.packets_per_urb;
@@ -77,7 +73,7 @@ with_packet_bytes bytes b =
       max_packet_size = b.max_packet_size;
       interval = b.interval;
       speed = b.speed;
-      packet_bytes = PacketBytes.Given bytes;
+      packet_bytes = Some bytes;
       packets_per_urb = b.packets_per_urb;
       depth = b.depth;
       underrun = b.underrun;
@@ -93,7 +89,7 @@ with_packets_per_urb packets b =
       interval = b.interval;
       speed = b.speed;
       packet_bytes = b.packet_bytes;
-      packets_per_urb = Packets.Given packets;
+      packets_per_urb = Some packets;
       depth = b.depth;
       underrun = b.underrun;
       silence_byte = b.silence_byte;

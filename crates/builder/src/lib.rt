@@ -3,79 +3,47 @@
 
 ghost use Rattle.std.specs.Prelude.{◌≡◌};
 ghost use Rattle.error.specs.declared.Error.{Error};
-ghost use Rattle.schedule.specs.declared.Derived.{Derived};
 ghost use Rattle.stream.specs.declared.Answer.{Answer};
 ghost use Rattle.builder.specs.Fields.{new_builder, with_max_packet_size, with_interval, with_speed, with_packet_bytes};
 ghost use Rattle.builder.specs.Fields.{with_packets_per_urb, with_depth, with_underrun, with_silence_byte};
 ghost use Rattle.builder.specs.Fields.{with_frame_bytes};
-ghost use Rattle.builder.specs.Build.{bytes_or, sized_plan, plan_of, setup_of, build_outcome};
+ghost use Rattle.builder.specs.Build.{plan_of, setup_of, build_outcome};
 
 use error::Error;
 use layout::{Setup, Underrun};
-use schedule::{Depth, Derived, Packets, Schedule, Speed};
+use schedule::{Depth, Schedule, Speed};
 use stream::{Answer, Stream};
-
-// The endpoint's bInterval, where it is known.
-#[derive(Clone, Copy)]
-pub enum BInterval {
-    Unknown,
-    Given(u8),
-}
-
-// The endpoint's payload bytes per service interval, where they are known.
-#[derive(Clone, Copy)]
-pub enum PacketSize {
-    Unknown,
-    Bytes(usize),
-}
-
-// The bytes written per packet, where the caller gives them.
-#[derive(Clone, Copy)]
-pub enum PacketBytes {
-    Absent,
-    Given(usize),
-}
 
 // What build gives back: the schedule of the stream that was opened, or why none was; and the stream's record, of no
 // slots where build refused.
 #[derive(Clone, Copy)]
 pub struct Built {
-    pub answer: Derived,
+    pub answer: Result<Schedule, Error>,
     pub stream: Stream,
 }
 
 #[derive(Clone, Copy)]
 pub struct IsoOutBuilder {
     pub endpoint: u8,
-    pub max_packet_size: PacketSize,
-    pub interval: BInterval,
+    pub max_packet_size: Option<usize>,
+    pub interval: Option<u8>,
     pub speed: Speed,
-    pub packet_bytes: PacketBytes,
-    pub packets_per_urb: Packets,
+    pub packet_bytes: Option<usize>,
+    pub packets_per_urb: Option<usize>,
     pub depth: Depth,
     pub underrun: Underrun,
     pub silence_byte: u8,
     pub frame_bytes: usize,
 }
 
-// Internal: absent packet bytes are the packet size.
-fn bytes_or(packet_bytes: PacketBytes, size: usize) -> usize
-    ensures { result ≡ bytes_or packet_bytes size }
-{
-    match packet_bytes {
-        PacketBytes::Absent => size,
-        PacketBytes::Given(bytes) => bytes,
-    }
-}
-
 // Internal: opening's refusal, or the schedule where opening is Done.
-fn opening_answer(answer: Answer, schedule: Schedule) -> Derived
-    ensures { ((e : Error) → answer ≡ Answer.Refused e → result ≡ Derived.Refused e)
-        × (answer ≡ Answer.Done → result ≡ Derived.Schedule schedule) }
+fn opening_answer(answer: Answer, schedule: Schedule) -> Result<Schedule, Error>
+    ensures { ((e : Error) → answer ≡ Answer.Refused e → result ≡ Err e)
+        × (answer ≡ Answer.Done → result ≡ Ok schedule) }
 {
     match answer {
-        Answer::Refused(e) => Derived::Refused(e),
-        _ => Derived::Schedule(schedule),
+        Answer::Refused(e) => Err(e),
+        _ => Ok(schedule),
     }
 }
 
@@ -86,11 +54,11 @@ impl IsoOutBuilder {
     {
         IsoOutBuilder {
             endpoint,
-            max_packet_size: PacketSize::Unknown,
-            interval: BInterval::Unknown,
+            max_packet_size: None,
+            interval: None,
             speed,
-            packet_bytes: PacketBytes::Absent,
-            packets_per_urb: Packets::Absent,
+            packet_bytes: None,
+            packets_per_urb: None,
             depth: Depth::Millis(8),
             underrun: Underrun::Continue,
             silence_byte: 0,
@@ -102,9 +70,8 @@ impl IsoOutBuilder {
     pub fn max_packet_size(self, bytes: usize) -> IsoOutBuilder
         ensures { result ≡ with_max_packet_size bytes self }
     {
-        let max_packet_size = PacketSize::Bytes(bytes);
         IsoOutBuilder {
-            max_packet_size,
+            max_packet_size: Some(bytes),
             ..self
         }
     }
@@ -112,8 +79,10 @@ impl IsoOutBuilder {
     pub fn interval(self, b_interval: u8) -> IsoOutBuilder
         ensures { result ≡ with_interval b_interval self }
     {
-        let interval = BInterval::Given(b_interval);
-        IsoOutBuilder { interval, ..self }
+        IsoOutBuilder {
+            interval: Some(b_interval),
+            ..self
+        }
     }
 
     pub fn speed(self, speed: Speed) -> IsoOutBuilder
@@ -126,9 +95,8 @@ impl IsoOutBuilder {
     pub fn packet_bytes(self, bytes: usize) -> IsoOutBuilder
         ensures { result ≡ with_packet_bytes bytes self }
     {
-        let packet_bytes = PacketBytes::Given(bytes);
         IsoOutBuilder {
-            packet_bytes,
+            packet_bytes: Some(bytes),
             ..self
         }
     }
@@ -136,9 +104,8 @@ impl IsoOutBuilder {
     pub fn packets_per_urb(self, packets: usize) -> IsoOutBuilder
         ensures { result ≡ with_packets_per_urb packets self }
     {
-        let packets_per_urb = Packets::Given(packets);
         IsoOutBuilder {
-            packets_per_urb,
+            packets_per_urb: Some(packets),
             ..self
         }
     }
@@ -175,52 +142,39 @@ impl IsoOutBuilder {
         }
     }
 
-    // Internal: refusals 29 and 30, then derive's, for a known interval and packet size.
-    fn sized_plan(self, b_interval: u8, size: usize) -> Derived
-        ensures { result ≡ sized_plan self b_interval size }
-    {
-        let packet_bytes = self.packet_bytes;
-        let speed = self.speed;
-        let depth = self.depth;
-        let packets = self.packets_per_urb;
-        let bytes = bytes_or(packet_bytes, size);
-        if size < bytes {
-            return Derived::Refused(Error::PacketBytesTooLarge);
-        }
-        if self.endpoint / 128 == 1 {
-            return Derived::Refused(Error::InvalidEndpoint);
-        }
-        Schedule::derive(speed, b_interval, bytes, depth, packets)
-    }
-
     // Internal: the schedule, or the first of refusals 27, 28, 29, 30 and derive's.
-    fn plan(self) -> Derived
+    #[tactic(auto, unfolding(crate::specs::Build::plan_of, crate::specs::Build::sized_plan))]
+    fn plan(self) -> Result<Schedule, Error>
         ensures { result ≡ plan_of self }
     {
-        let interval = self.interval;
-        match interval {
-            BInterval::Unknown => Derived::Refused(Error::IntervalUnknown),
-            BInterval::Given(b_interval) => {
-                let size = self.max_packet_size;
-                match size {
-                    PacketSize::Unknown => Derived::Refused(Error::PacketSizeUnknown),
-                    PacketSize::Bytes(bytes) => self.sized_plan(b_interval, bytes),
-                }
-            }
+        let b_interval = self.interval.ok_or(Error::IntervalUnknown)?;
+        let size = self.max_packet_size.ok_or(Error::PacketSizeUnknown)?;
+        let bytes = self.packet_bytes.unwrap_or(size);
+        if bytes > size {
+            return Err(Error::PacketBytesTooLarge);
         }
+        if self.endpoint & 0x80 != 0 {
+            return Err(Error::InvalidEndpoint);
+        }
+        Schedule::derive(
+            self.speed,
+            b_interval,
+            bytes,
+            self.depth,
+            self.packets_per_urb,
+        )
     }
 
     // Internal: opening's values for a schedule.
     fn opening_values(self, schedule: Schedule, base: usize, tagged: bool) -> Setup
         ensures { result ≡ setup_of self schedule base tagged }
     {
-        let underrun = self.underrun;
         Setup {
             slots: schedule.urbs,
             packets_per_urb: schedule.packets_per_urb,
             packet_bytes: schedule.packet_bytes,
             endpoint: self.endpoint,
-            underrun,
+            underrun: self.underrun,
             silence_byte: self.silence_byte,
             base,
             tagged,
@@ -235,18 +189,16 @@ impl IsoOutBuilder {
             × (block.new ≡ (build_outcome self base tagged block.old).block) }
     {
         match self.plan() {
-            Derived::Refused(e) => Built {
-                answer: Derived::Refused(e),
+            Err(e) => Built {
+                answer: Err(e),
                 stream: opening::no_stream(),
             },
-            Derived::Schedule(schedule) => {
+            Ok(schedule) => {
                 let setup = self.opening_values(schedule, base, tagged);
                 let reply = opening::open(setup, block);
-                let answer = reply.answer;
-                let stream = reply.stream;
                 Built {
-                    answer: opening_answer(answer, schedule),
-                    stream,
+                    answer: opening_answer(reply.answer, schedule),
+                    stream: reply.stream,
                 }
             }
         }

@@ -1,4 +1,7 @@
 -- What opening from C leaves where it returns 0: admissible values, and the image of the opened ledger at the front of the buffer. Assumes nothing.
+use Rattle.std.specs.Prelude.{Result, Ok, Err}
+use Rattle.layout.specs.declared.RingLayout.{RingLayout}
+use Rattle.error.specs.declared.Error.{Error}
 use Prim.Native.Nat.{ℕ, ◌+◌, ◌^◌, ◌≤◌, ◌<◌}
 use native.Mathlib.Omega.{arith}
 use mathlib.Core.Path.{◌≡◌, refl, ap, ◌∙◌}
@@ -11,7 +14,6 @@ use borrow.Author.Tests.{ltb-false}
 use Rattle.error.proofs.Numbers.{never-0}
 use Rattle.sys.specs.Bytes.{store}
 use Rattle.sys.proofs.Store.{store-eq}
-use Rattle.layout.specs.declared.Laid.{Laid}
 use Rattle.layout.specs.declared.Setup.{Setup}
 use Rattle.layout.specs.Numbers.{setup_from}
 use Rattle.layout.specs.Opening.{admissible}
@@ -43,10 +45,10 @@ by-room : (s : Setup) (block buffer out : List ℕ) → admissible s ≡ true �
 by-room s block buffer out ok true e done is z = absurd (not-31 buffer block out z)
 by-room s block buffer out ok false e done is z = record { ok = ok; room = ltb-false (length buffer) (image_size s.slots) e; image = is }
 
-by_layout : (s : Setup) (block buffer out : List ℕ) (o : Laid) → opens s (length block) ≡ o → (opened_from_c o s block buffer out).returned ≡ 0 → Opens s buffer (opened_from_c o s block buffer out)
+by_layout : (s : Setup) (block buffer out : List ℕ) (o : Result RingLayout Error) → opens s (length block) ≡ o → (opened_from_c o s block buffer out).returned ≡ 0 → Opens s buffer (opened_from_c o s block buffer out)
 unfolding opened_from_c told numbers_of
-by_layout s block buffer out (Laid.Refused e) is z = absurd (never-0 e z)
-by_layout s block buffer out (Laid.Layout layout) is z =
+by_layout s block buffer out (Err e) is z = absurd (never-0 e z)
+by_layout s block buffer out (Ok layout) is z =
     by-room s block buffer out (opened-layout s (length block) layout is).admissible _ refl _ refl z
 
 opened-image : (numbers block buffer out : List ℕ) → (open_from_c numbers block buffer out).returned ≡ 0 → Opens (setup_from numbers) buffer (open_from_c numbers block buffer out)

@@ -2,8 +2,7 @@
 // many of its numbers as can matter are read into a list of our own.
 #![tactic(auto)]
 
-ghost use Rattle.std.specs.Prelude.{◌≡◌, ◌*◌, ◌≤◌, length, replicate};
-ghost use Prim.Native.Nat;
+ghost use Rattle.std.specs.Prelude.{◌≡◌, ◌*◌, ◌≤◌, length};
 ghost use Rattle.sys.specs.Bytes.{store};
 ghost use Rattle.ledger.specs.Commit.{commit_packets as commit_packets_rule};
 ghost use Rattle.ledger.specs.Control.{stop as stop_rule};
@@ -21,33 +20,13 @@ const MOST_LENGTHS: usize = 129;
 // The most slots of a ring: stop lists no more.
 const MOST_SLOTS: usize = 256;
 
-// Internal: room for a list.
-fn no_lengths() -> [usize; 129]
-    ensures { result ≡ replicate 129 0 }
-{
-    [0; 129]
-}
-
-fn no_slots() -> [usize; 256]
-    ensures { result ≡ replicate 256 0 }
-{
-    [0; 256]
-}
-
-// The smaller of two numbers.
-fn min(a: usize, b: usize) -> usize
-    ensures { result ≡ Nat.min a b }
-{
-    if a < b { a } else { b }
-}
-
 // Internal: stores numbers of 8 bytes from the start.
 fn put_list(bytes: &mut [u8], values: &[usize])
     requires { 8 * length values.now ≤ length bytes.old }
     ensures { bytes.new ≡ store 0 (words 8 values.now) bytes.old }
 {
-    for i in 0..values.len() {
-        put(bytes, 8 * i, 8, values[i] as u64);
+    for (i, &value) in values.iter().enumerate() {
+        put(bytes, 8 * i, 8, value as u64);
     }
 }
 
@@ -55,8 +34,8 @@ fn put_list(bytes: &mut [u8], values: &[usize])
 pub fn commit_listed(s: Stream, lengths: &[u8], block: &mut [u8]) -> Reply
     ensures { Called (commit_packets_rule (list_in lengths.now)) s block.old result block.new }
 {
-    let count = min(lengths.len() / 8, MOST_LENGTHS);
-    let mut numbers = no_lengths();
+    let count = (lengths.len() / 8).min(MOST_LENGTHS);
+    let mut numbers = [0; MOST_LENGTHS];
     get_words(lengths, &mut numbers[..count]);
     commit::commit_packets(s, &numbers[..count], block)
 }
@@ -65,8 +44,8 @@ pub fn commit_listed(s: Stream, lengths: &[u8], block: &mut [u8]) -> Reply
 pub fn stop_listed(s: Stream, list: &mut [u8]) -> Reply
     ensures { Called (on_list stop_rule) s list.old result list.new }
 {
-    let count = min(list.len() / 8, MOST_SLOTS);
-    let mut slots = no_slots();
+    let count = (list.len() / 8).min(MOST_SLOTS);
+    let mut slots = [0; MOST_SLOTS];
     get_words(list, &mut slots[..count]);
     let reply = control::stop(s, &mut slots[..count]);
     put_list(list, &slots[..count]);

@@ -1,7 +1,8 @@
 -- Opening from C.
-use Rattle.std.specs.Prelude.{ℕ, Bool, cond, ◌||◌, List, ltb, length, get_or}
+use Rattle.layout.specs.declared.RingLayout.{RingLayout}
+use Rattle.error.specs.declared.Error.{Error}
+use Rattle.std.specs.Prelude.{ℕ, Bool, cond, ◌||◌, List, ltb, length, get_or, Result, Ok, Err}
 use Rattle.sys.specs.Bytes.{store}
-use Rattle.layout.specs.declared.Laid.{Laid}
 use Rattle.layout.specs.declared.Setup.{Setup}
 use Rattle.layout.specs.Numbers.{setup_from}
 use Rattle.opening.specs.Refusals.{opens}
@@ -18,9 +19,9 @@ unfoldable pub names_none : List ℕ → Bool
 names_none numbers = ltb 2 (get_or numbers 4 0) || ltb 1 (get_or numbers 7 0)
 
 -- Opening's own refusals; then 31 for a buffer too short; else Done, with block and image written.
-unfoldable pub opened_from_c : Laid → Setup → List ℕ → List ℕ → List ℕ → FromC
-opened_from_c (Laid.Refused e) s block buffer out = told (Answer.Refused e) buffer block out
-opened_from_c (Laid.Layout layout) s block buffer out =
+unfoldable pub opened_from_c : Result RingLayout Error → Setup → List ℕ → List ℕ → List ℕ → FromC
+opened_from_c (Err e) s block buffer out = told (Answer.Refused e) buffer block out
+opened_from_c (Ok layout) s block buffer out =
     cond (ltb (length buffer) (image_size s.slots)) (not_an_image buffer block out)
     (told Answer.Done (store 0 (ledger_image s (opened_ledger s.slots)) buffer) (opened_block s) out)
 

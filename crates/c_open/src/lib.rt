@@ -8,7 +8,7 @@ ghost use Rattle.c_open.specs.Open.{opened_from_c, open_from_c};
 
 use from_c::{answered, not_an_image, tell};
 use image::{policy_from, size};
-use layout::{Laid, Setup};
+use layout::Setup;
 use stream::Answer;
 
 // Opens a ring with these values: their refusals, then 31 for a buffer too short for the image.
@@ -16,16 +16,13 @@ fn open_in(setup: Setup, block: &mut [u8], image: &mut [u8], out: &mut [u8]) -> 
     ensures { Returned (opened_from_c (opens setup (length block.old)) setup block.old
         image.old out.old) result image.new block.new out.new }
 {
-    match opening::opens(setup, block.len()) {
-        Laid::Refused(e) => tell(Answer::Refused(e), out),
-        Laid::Layout(_) => {
-            if image.len() < size(setup.slots) {
-                return not_an_image(out);
-            }
-            let reply = opening::open(setup, block);
-            answered(reply, image, out)
-        }
+    if let Err(e) = opening::opens(setup, block.len()) {
+        return tell(Answer::Refused(e), out);
     }
+    if image.len() < size(setup.slots) {
+        return not_an_image(out);
+    }
+    answered(opening::open(setup, block), image, out)
 }
 
 // Opens a ring in the block and writes its image: 31 for a policy or tag that names none, then as above.
@@ -48,19 +45,15 @@ pub fn open_stream(
         ∷ []) block.old image.old out.old) result image.new block.new
         out.new }
 {
-    if 2 < policy {
+    if policy > 2 || tag > 1 {
         return not_an_image(out);
     }
-    if 1 < tag {
-        return not_an_image(out);
-    }
-    let underrun = policy_from(policy);
     let setup = Setup {
         slots: slots as usize,
         packets_per_urb: packets_per_urb as usize,
         packet_bytes: packet_bytes as usize,
         endpoint,
-        underrun,
+        underrun: policy_from(policy),
         silence_byte,
         base: base as usize,
         tagged: tag == 1,

@@ -10,39 +10,20 @@ ghost use Rattle.ledger.specs.Gives.{Gives};
 ghost use Rattle.ledger.specs.Ledger.{with_hand};
 ghost use Rattle.ledger.specs.Record.{view};
 ghost use Rattle.ledger.specs.Told.{Told};
-ghost use Rattle.gate.specs.declared.Lent.{Lent};
-ghost use Rattle.gate.specs.Gate.{held_gate};
 
 use error::Error;
-use gate::{InHand, Lent, held_test, put_back, refused, with_hand};
+use gate::{held_gate, put_back, refused, with_hand};
 use layout::Setup;
 use ring::Hand;
 use slot::{any_above, set_packet_lengths, set_packet_lengths_exact};
 use stream::{Answer, Reply, Stream};
-
-// Refusals 8, 6 and 9, or the slot in hand.
-fn slot_in_hand(s: Stream, block_len: usize) -> InHand
-    ensures { result ≡ held_gate s (Lent.Block block_len) }
-{
-    let setup = s.setup;
-    let ring = s.ring;
-    let hand = s.hand;
-    let n = setup.slots;
-    let home = ring.home(n);
-    let is_sound = setup.admissible()
-        & ring.hand_sound(n, hand)
-        & ring.out_sound(n, home)
-        & ring.count_sound(n, hand);
-    held_test(is_sound, setup, hand, Lent::Block(block_len))
-}
 
 // Internal: the most bytes that a slot holds.
 fn slot_capacity(setup: Setup) -> usize
     requires { admissible setup ≡ true }
     ensures { result ≡ capacity_of setup }
 {
-    let layout = setup.layout_of();
-    layout.slot_capacity
+    setup.layout_of().slot_capacity
 }
 
 // Internal: ends a commit whose lengths are written. The host is to submit the slot.
@@ -92,9 +73,9 @@ fn packets_held(s: Stream, i: usize, lengths: &[usize], block: &mut [u8]) -> Rep
 pub fn commit(s: Stream, bytes: usize, block: &mut [u8]) -> Reply
     ensures { Told (Call.commit bytes block.old) s result.answer result.stream block.new }
 {
-    match slot_in_hand(s, block.len()) {
-        InHand::Slot(i) => commit_held(s, i, bytes, block),
-        InHand::Refused(e) => refused(s, e),
+    match held_gate(&s, Some(block.len())) {
+        Ok(i) => commit_held(s, i, bytes, block),
+        Err(e) => refused(s, e),
     }
 }
 
@@ -103,13 +84,12 @@ pub fn commit(s: Stream, bytes: usize, block: &mut [u8]) -> Reply
 pub fn commit_full(s: Stream, block: &mut [u8]) -> Reply
     ensures { Told (Call.commit_full block.old) s result.answer result.stream block.new }
 {
-    match slot_in_hand(s, block.len()) {
-        InHand::Slot(i) => {
-            let setup = s.setup;
-            let capacity = slot_capacity(setup);
+    match held_gate(&s, Some(block.len())) {
+        Ok(i) => {
+            let capacity = slot_capacity(s.setup);
             commit_held(s, i, capacity, block)
         }
-        InHand::Refused(e) => refused(s, e),
+        Err(e) => refused(s, e),
     }
 }
 
@@ -118,8 +98,8 @@ pub fn commit_packets(s: Stream, lengths: &[usize], block: &mut [u8]) -> Reply
     ensures { Told (Call.commit_packets lengths.now block.old)
         s result.answer result.stream block.new }
 {
-    match slot_in_hand(s, block.len()) {
-        InHand::Slot(i) => packets_held(s, i, lengths, block),
-        InHand::Refused(e) => refused(s, e),
+    match held_gate(&s, Some(block.len())) {
+        Ok(i) => packets_held(s, i, lengths, block),
+        Err(e) => refused(s, e),
     }
 }

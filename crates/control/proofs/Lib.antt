@@ -1,3 +1,4 @@
+pub mod Gated
 pub mod Unmoved
 pub mod InFlight
 pub mod Stopped

@@ -62,6 +62,11 @@ state-stopped ring i = go (dec_lt i 256)
 after : Stream → Ledger
 after s = with_flags false false (with_marks (discard_all (view s).marks) (view s))
 
+-- a mask's list has no more numbers than places
+pub count_fits : (f : ℕ → Bool) (t : MaskList) → t ≡ list_of (places 0 256 f) → t.count ≤ 256
+unfolding list_of
+count_fits f t is = rw is (places-length 0 256 f)
+
 module _ (s : Stream) (ok : sound s ≡ true) (wide : Wide s.ring) where
   -- the ring with its InFlight slots discarded shows the ledger after stop
   ring-stopped : ring_for s.setup.slots s.ring (after s) ≡ Ring·discarded s.ring
@@ -90,10 +95,8 @@ module _ (s : Stream) (ok : sound s ≡ true) (wide : Wide s.ring) where
     unfolding list_of
     listed = rw is (take-append_seam _ _) ∙ mask-lists s ok wide
 
-    -- its count fits its places
-    pub count_fits : t.count ≤ 256
-    unfolding list_of
-    count_fits = rw is (places-length 0 256 (member s.ring.states.in_flight))
+    pub numbered : length (take t.count t.places) ≡ t.count
+    numbered = ap length listed ∙ sym counted
 
     module _ (list : List ℕ) where
       -- a list with fewer places
@@ -108,14 +111,17 @@ module _ (s : Stream) (ok : sound s ≡ true) (wide : Wide s.ring) where
       pub all-stopped :
           t.count ≤ length list →
           (ring : Ring) → ring ≡ Ring·discarded s.ring →
-          (to : Stream) → to ≡ with_state s ring s.hand (record { started = false; armed = false }) s.stats →
-          (lent : List ℕ) → lent ≡ take t.count t.places ++ drop t.count list →
-          Gives s (stop_idle s.setup (view s) list) (record { stream = to; answer = Answer.Stopped t.count }) lent
+          (lent : List ℕ) → lent ≡ take t.count t.places ++ drop (length (take t.count t.places)) list →
+          Gives s (stop_idle s.setup (view s) list)
+          (record {
+            stream = with_state s ring s.hand (record { started = false; armed = false }) s.stats;
+            answer = Answer.Stopped t.count;
+          }) lent
       unfolding stop_idle view stored after with_flags with_marks
-      all-stopped h ring d to e lent f =
+      all-stopped h ring d lent f =
           rw (← counted, le-ltb (length list) t.count h, ← listed)
           (record {
             answer = refl;
-            stream = e ∙ ap (λ (r : Ring). with_state s r s.hand (record { started = false; armed = false }) s.stats) (d ∙ sym ring-stopped);
-            block = f;
+            stream = ap (λ (r : Ring). with_state s r s.hand (record { started = false; armed = false }) s.stats) (d ∙ sym ring-stopped);
+            block = f ∙ ap (λ (n : ℕ). take t.count t.places ++ drop n list) numbered;
           })

@@ -40,13 +40,14 @@ module _ (s : Stream) (ok : sound s ≡ true) (wide : Wide s.ring) where
       sym (stored-view s ok wide)
   after-start false e = flags-stored true false
 
-  pub started : (armed : Bool) → armed ≡ cond s.flags.started s.flags.armed false → (to : Stream) → to ≡ with_state s s.ring s.hand (record { started = true; armed = armed }) s.stats → Gives s (start_idle s.setup (view s) []) (record { stream = to; answer = Answer.Done }) []
+  pub started : (armed : Bool) → armed ≡ cond s.flags.started s.flags.armed false
+      → Gives s (start_idle s.setup (view s) [])
+      (record { stream = with_state s s.ring s.hand (record { started = true; armed = armed }) s.stats; answer = Answer.Done }) []
   unfolding start_idle view
-  started armed e to f =
+  started armed e =
       record {
         answer = refl;
         stream =
-            f ∙
             ap (λ (b : Bool). with_state s s.ring s.hand (record { started = true; armed = b }) s.stats) e ∙
             after-start s.flags.started refl;
         block = refl;

@@ -4,31 +4,21 @@
 mod listed;
 
 ghost use Rattle.std.specs.Prelude.{[], ◌≡◌};
-ghost use Rattle.stream.specs.Parts.{with_state};
 ghost use Rattle.ledger.specs.Calls.{Call};
 ghost use Rattle.ledger.specs.Told.{Told};
 
 use error::Error;
-use gate::{Gate, InHand, Lent, held_gate, idle_gate, put_back, refused};
+use gate::{held_gate, idle_gate, put_back, refused};
 use listed::write_list;
-use ring::Ring;
 use stream::{Answer, Flags, Reply, Stream};
-
-// Internal: the record with another ring and other flags.
-fn with_flags(s: Stream, ring: Ring, flags: Flags) -> Stream
-    ensures { result ≡ with_state s ring s.hand flags s.stats }
-{
-    let hand = s.hand;
-    Stream::new(s.setup, ring, hand, flags, s.stats)
-}
 
 // Returns the slot in hand to the queue, unsent.
 pub fn give_back(s: Stream) -> Reply
     ensures { Told Call.give_back s result.answer result.stream [] }
 {
-    match held_gate(s, Lent::Nothing) {
-        InHand::Slot(i) => put_back(s, i, Answer::Done),
-        InHand::Refused(e) => refused(s, e),
+    match held_gate(&s, None) {
+        Ok(i) => put_back(s, i, Answer::Done),
+        Err(e) => refused(s, e),
     }
 }
 
@@ -37,20 +27,15 @@ pub fn give_back(s: Stream) -> Reply
 pub fn start(s: Stream) -> Reply
     ensures { Told Call.start s result.answer result.stream [] }
 {
-    match idle_gate(s, Lent::Nothing) {
-        Gate::Refused(e) => refused(s, e),
-        Gate::Open => {
-            let flags = s.flags;
-            let armed = if flags.started { flags.armed } else { false };
+    match idle_gate(&s, None) {
+        Err(e) => refused(s, e),
+        Ok(()) => {
+            let flags = Flags {
+                started: true,
+                armed: s.flags.started && s.flags.armed,
+            };
             Reply {
-                stream: with_flags(
-                    s,
-                    s.ring,
-                    Flags {
-                        started: true,
-                        armed,
-                    },
-                ),
+                stream: Stream { flags, ..s },
                 answer: Answer::Done,
             }
         }
@@ -59,29 +44,29 @@ pub fn start(s: Stream) -> Reply
 
 // Marks each InFlight slot Discarding and lists it, for the host to discard its URB. The kernel still gives each
 // back: it owns their memory until then, so they stay out until they are reaped.
+#[tactic(auto, using(crate::proofs::Stopped::count_fits))]
 pub fn stop(s: Stream, list: &mut [usize]) -> Reply
     ensures { Told (Call.stop list.old) s result.answer result.stream list.new }
 {
-    match idle_gate(s, Lent::Nothing) {
-        Gate::Refused(e) => refused(s, e),
-        Gate::Open => {
-            let ring = s.ring;
-            let states = ring.states;
-            let listed = states.in_flight.list();
+    match idle_gate(&s, None) {
+        Err(e) => refused(s, e),
+        Ok(()) => {
+            let listed = s.ring.states.in_flight.list();
             let count = listed.count;
             if list.len() < count {
                 return refused(s, Error::ListTooShort);
             }
-            write_list(listed, list);
+            write_list(&listed.places[..count], list);
+            let flags = Flags {
+                started: false,
+                armed: false,
+            };
             Reply {
-                stream: with_flags(
-                    s,
-                    ring.mark_discarding(),
-                    Flags {
-                        started: false,
-                        armed: false,
-                    },
-                ),
+                stream: Stream {
+                    ring: s.ring.mark_discarding(),
+                    flags,
+                    ..s
+                },
                 answer: Answer::Stopped(count),
             }
         }
@@ -92,11 +77,10 @@ pub fn stop(s: Stream, list: &mut [usize]) -> Reply
 pub fn finish(s: Stream) -> Reply
     ensures { Told Call.finish s result.answer result.stream [] }
 {
-    match idle_gate(s, Lent::Nothing) {
-        Gate::Refused(e) => refused(s, e),
-        Gate::Open => {
-            let ring = s.ring;
-            if ring.in_flight == 0 {
+    match idle_gate(&s, None) {
+        Err(e) => refused(s, e),
+        Ok(()) => {
+            if s.ring.in_flight == 0 {
                 Reply {
                     stream: s,
                     answer: Answer::Yes,

@@ -1,16 +1,12 @@
 // The numbers that stop lists, written into the host's list.
-ghost use Rattle.std.specs.Prelude.{◌++◌, ◌≡◌, ◌≤◌, length, take, drop};
-
-use mask::MaskList;
+ghost use Rattle.std.specs.Prelude.{◌++◌, ◌≡◌, ◌≤◌, length, drop};
 
 // Internal: writes the numbers into the list, whose rest stays as it was.
-pub fn write_list(listed: MaskList, list: &mut [usize])
-    requires { (listed.count ≤ 256) × (listed.count ≤ length list.old) }
-    ensures { list.new ≡ take listed.count listed.places ++ drop listed.count list.old }
+pub fn write_list(numbers: &[u8], list: &mut [usize])
+    requires { length numbers.now ≤ length list.old }
+    ensures { list.new ≡ numbers.now ++ drop (length numbers.now) list.old }
 {
-    let places = listed.places;
-    let count = listed.count;
-    for k in 0..count {
-        list[k] = places[k] as usize;
+    for (k, &number) in numbers.iter().enumerate() {
+        list[k] = usize::from(number);
     }
 }

@@ -1,7 +1,6 @@
 // The states of a ring as bytes, a slot each: 0 to 3, as SlotState lists them. A number has two binary digits, and 64
 // slots have a word of the low ones and a word of the high ones.
 ghost use Rattle.std.specs.Prelude.{cond, ◌≡◌, ◌+◌, ◌*◌, ◌<◌, ◌≤◌, length, get_or};
-ghost use Prim.Native.Nat;
 ghost use Rattle.mask.specs.Bits.{bit};
 ghost use Rattle.mask.specs.Masks.{word_at, table_word};
 ghost use Rattle.ring.specs.Counts.{table, how_many};
@@ -22,28 +21,17 @@ struct StateWords {
 }
 
 // Internal: word q of a mask.
+#[tactic(auto, unfolding(mask::specs::Masks::word_at))]
 fn word(mask: Mask, q: usize) -> u64
     requires { q < 4 }
     ensures { result ≡ word_at mask q }
 {
-    if q == 0 {
-        return mask.a;
+    match q {
+        0 => mask.a,
+        1 => mask.b,
+        2 => mask.c,
+        _ => mask.d,
     }
-    if q == 1 {
-        return mask.b;
-    }
-    if q == 2 {
-        return mask.c;
-    }
-    mask.d
-}
-
-// Internal: where 64 slots from `at` on end, or where all n do.
-fn end_of(at: usize, n: usize) -> usize
-    requires { at ≤ 256 }
-    ensures { result ≡ Nat.min (at + 64) n }
-{
-    if at + 64 < n { at + 64 } else { n }
 }
 
 // Internal: writes the numbers of at most 64 slots, of which these words have the states. The first slot's digits are
@@ -56,8 +44,8 @@ fn put_slots(filling: u64, flying: u64, discarding: u64, codes: &mut [u8])
 {
     let mut low = filling | discarding & !flying;
     let mut high = (flying | discarding) & !filling;
-    for i in 0..codes.len() {
-        codes[i] = (low % 2 + 2 * (high % 2)) as u8;
+    for code in codes.iter_mut() {
+        *code = (low % 2 + 2 * (high % 2)) as u8;
         low /= 2;
         high /= 2;
     }
@@ -70,14 +58,15 @@ pub fn put_states(ring: Ring, codes: &mut [u8])
 {
     let states = ring.states;
     let n = codes.len();
-    let mut at = 0;
-    while at < n {
-        let filling = word(states.filling, at / 64);
-        let flying = word(states.in_flight, at / 64);
-        let discarding = word(states.discarding, at / 64);
-        let end = end_of(at, n);
-        put_slots(filling, flying, discarding, &mut codes[at..end]);
-        at = end;
+    for q in 0..n.div_ceil(64) {
+        let from = q * 64;
+        let to = n.min(from + 64);
+        put_slots(
+            word(states.filling, q),
+            word(states.in_flight, q),
+            word(states.discarding, q),
+            &mut codes[from..to],
+        );
     }
 }
 
@@ -85,7 +74,7 @@ pub fn put_states(ring: Ring, codes: &mut [u8])
 fn number_from(code: u8) -> u64
     ensures { result ≡ state_number (state_from code) }
 {
-    if code < 3 { code as u64 } else { 3 }
+    u64::from(code.min(3))
 }
 
 // Internal: the states of the slots of word q that stand in these bytes, the others Free. It goes from the last slot to
@@ -99,12 +88,11 @@ fn read_slots(codes: &[u8], q: usize) -> StateWords
         ≡ how_many (q * 64 + 64) (λ i. is_out (state_from (get_or codes.now i 0)))) }
 {
     let from = q * 64;
-    let mut at = end_of(from, codes.len());
+    let end = (from + 64).min(codes.len());
     let mut low: u64 = 0;
     let mut high: u64 = 0;
     let mut out: usize = 0;
-    while from < at {
-        at -= 1;
+    for at in (from..end).rev() {
         let number = number_from(codes[at]);
         low = low * 2 + number % 2;
         high = high * 2 + number / 2;
@@ -118,6 +106,25 @@ fn read_slots(codes: &[u8], q: usize) -> StateWords
     }
 }
 
+// Internal: the mask that has this word of each of the four.
+fn mask_with<F: Fn(StateWords) -> u64>(
+    a: StateWords,
+    b: StateWords,
+    c: StateWords,
+    d: StateWords,
+    part: F,
+) -> Mask
+    requires { F.IsAlwaysCallable part }
+    ensures { F.post part a result.a × F.post part b result.b × F.post part c result.c × F.post part d result.d }
+{
+    Mask {
+        a: part(a),
+        b: part(b),
+        c: part(c),
+        d: part(d),
+    }
+}
+
 // Internal: a ring with the states that stand in these bytes, the others Free, and with these places of the queue.
 pub fn from_codes(codes: &[u8], free: [u8; 256], free_len: usize) -> Ring
     requires { length codes.now ≤ 256 }
@@ -128,26 +135,11 @@ pub fn from_codes(codes: &[u8], free: [u8; 256], free_len: usize) -> Ring
     let b = read_slots(codes, 1);
     let c = read_slots(codes, 2);
     let d = read_slots(codes, 3);
-    let states = SlotStates::new(
-        Mask {
-            a: a.filling,
-            b: b.filling,
-            c: c.filling,
-            d: d.filling,
-        },
-        Mask {
-            a: a.in_flight,
-            b: b.in_flight,
-            c: c.in_flight,
-            d: d.in_flight,
-        },
-        Mask {
-            a: a.discarding,
-            b: b.discarding,
-            c: c.discarding,
-            d: d.discarding,
-        },
-    );
+    let states = SlotStates {
+        filling: mask_with(a, b, c, d, |w| w.filling),
+        in_flight: mask_with(a, b, c, d, |w| w.in_flight),
+        discarding: mask_with(a, b, c, d, |w| w.discarding),
+    };
     Ring {
         states,
         free,

@@ -13,8 +13,8 @@ pub fn has_words(bytes: &[u8], at: usize, width: usize, values: &[u64]) -> bool
     ensures { result ≡ begins (words width values.now) (drop at bytes.now) }
 {
     let mut next = at;
-    for i in 0..values.len() {
-        if get(bytes, next, width) != values[i] {
+    for &value in values {
+        if get(bytes, next, width) != value {
             return false;
         }
         next += width;
@@ -28,8 +28,8 @@ pub fn put_words(bytes: &mut [u8], at: usize, width: usize, values: &[u64])
     ensures { bytes.new ≡ store at (words width values.now) bytes.old }
 {
     let mut next = at;
-    for i in 0..values.len() {
-        put(bytes, next, width, values[i]);
+    for &value in values {
+        put(bytes, next, width, value);
         next += width;
     }
 }
@@ -39,8 +39,8 @@ pub fn get_words(bytes: &[u8], values: &mut [usize])
     requires { 8 * length values.old ≤ length bytes.now }
     ensures { values.new ≡ numbers_at 8 (length values.old) 0 bytes.now }
 {
-    for i in 0..values.len() {
-        values[i] = get(bytes, 8 * i, 8) as usize;
+    for (i, value) in values.iter_mut().enumerate() {
+        *value = get(bytes, 8 * i, 8) as usize;
     }
 }
 
@@ -48,10 +48,6 @@ pub fn get_words(bytes: &[u8], values: &mut [usize])
 pub fn write_numbers(values: &[u64], out: &mut [u8])
     ensures { out.new ≡ written values.now out.old }
 {
-    let fit = out.len() / 8;
-    if fit < values.len() {
-        put_words(out, 0, 8, &values[..fit]);
-    } else {
-        put_words(out, 0, 8, values);
-    }
+    let fit = (out.len() / 8).min(values.len());
+    put_words(out, 0, 8, &values[..fit]);
 }

@@ -69,14 +69,12 @@ impl Error {
         ensures { result ≡ from_errno errno context }
     {
         match errno {
-            19 => Error::Disconnected,
-            108 => Error::Disconnected,
+            19 | 108 => Error::Disconnected,
             12 => match context {
                 ErrnoContext::Submit { bytes } => Error::UsbfsMemory(bytes),
                 ErrnoContext::Other => Error::Io(errno),
             },
-            13 => Error::PermissionDenied,
-            1 => Error::PermissionDenied,
+            13 | 1 => Error::PermissionDenied,
             25 => Error::Unsupported,
             _ => Error::Io(errno),
         }

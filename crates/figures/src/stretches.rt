@@ -6,6 +6,7 @@ use encoding::write_numbers;
 use stretch::{Positions, next_stretch};
 
 // The stretch's five numbers, a refused one's too. Any flag but 0 is set.
+#[tactic(auto, unfolding(crate::specs::Stretches::stretch_from_c, crate::specs::Stretches::stretch_figures))]
 pub fn stretch_figures(
     programme: &[u8],
     message: &[u8],
@@ -23,15 +24,13 @@ pub fn stretch_figures(
         message: message_at as usize,
     };
     let s = next_stretch(programme, message, message_flag != 0, capacity as usize, at);
-    let source = s.source;
-    let next = s.next;
-    let numbers: [u64; 5] = [
-        source.number(),
+    let numbers = [
+        s.source_number(),
         s.start as u64,
         s.len as u64,
-        next.programme as u64,
-        next.message as u64,
+        s.next.programme as u64,
+        s.next.message as u64,
     ];
     write_numbers(&numbers, out);
-    source.refusal()
+    s.refusal()
 }

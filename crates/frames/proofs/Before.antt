@@ -1,5 +1,6 @@
 -- With f = 1 the largest multiple of f not above b is b, and 33 refuses nothing that 2 has not refused: so each definition is the one of
 -- before. Assumes nothing.
+use Rattle.std.specs.Prelude.{Result, Ok, Err}
 use Prim.Native.Nat.{ℕ, zero, suc, ◌+◌, ◌*◌}
 use native.Mathlib.Omega.{arith}
 use mathlib.Core.Bool.{Bool, true, false, cond}
@@ -12,7 +13,6 @@ use lib.ListN.{length, replicate}
 use Rattle.error.specs.declared.Error.{Error}
 use Rattle.sys.specs.Bytes.{store}
 use Rattle.sys.specs.Header.{header_bytes, slot_header}
-use Rattle.layout.specs.declared.Laid.{Laid}
 use Rattle.layout.specs.declared.RingLayout.{RingLayout}
 use Rattle.layout.specs.declared.Setup.{Setup}
 use Rattle.layout.specs.Layout.{whole_frames, layout_of, sizes, overflowing, bad_frame, laid, laid_out}
@@ -103,15 +103,15 @@ module _ (s : Setup) (one : s.frame_bytes ≡ 1) where
   headers zero block = refl
   headers (suc i) block = λ j. store (i * (layout-for j).slot_stride) (header_bytes (header-before i j)) (headers i block j)
 
-  opened : (o : Laid) (block : List ℕ) → opened_or o s block ≡ opened_or_before o s block
+  opened : (o : Result RingLayout Error) (block : List ℕ) → opened_or o s block ≡ opened_or_before o s block
   unfolding opened_or opened_or_before opened_block
-  opened (Laid.Refused e) block = refl
-  opened (Laid.Layout layout) block =
+  opened (Err e) block = refl
+  opened (Ok layout) block =
       λ j. record { answer = Answer.Done; stream = opened_stream s; block = headers s.slots (replicate (total_of s) 0) j }
 
   outcome : (block : List ℕ) → open_outcome s block ≡ open_outcome_before s block
   unfolding open_outcome open_outcome_before
-  outcome block = ap (λ (o : Laid). opened_or o s block) (opens-before (length block)) ∙ opened _ block
+  outcome block = ap (λ (o : Result RingLayout Error). opened_or o s block) (opens-before (length block)) ∙ opened _ block
 
   -- commit
   held : (bytes i : ℕ) (l : Ledger) (block : List ℕ) → commit_held bytes i s l block ≡ commit_held_before bytes i s l block

@@ -1,11 +1,11 @@
 -- The definitions that request 2026-04 changed, as they stood before it: capacity p × b, each packet min(rest, b), no 33. With f = 1 those
 -- of today are equal to them, for layout, opening, 8, commit and silence.
-use Rattle.std.specs.Prelude.{ℕ, zero, suc, ◌+◌, ◌*◌, Bool, cond, ◌||◌, List, [], ◌∷◌, ◌++◌, ◌≡◌, ltb, pos, length, replicate}
+use Rattle.std.specs.Prelude.{ℕ, zero, suc, ◌+◌, ◌*◌, Bool, cond, ◌||◌, List, [], ◌∷◌, ◌++◌, ◌≡◌, ltb, pos}
+use Rattle.std.specs.Prelude.{length, replicate, Result, Ok, Err}
 use Rattle.error.specs.declared.Error.{Error}
 use Rattle.sys.specs.declared.header.Urb.{Urb}
 use Rattle.sys.specs.Bytes.{store}
 use Rattle.sys.specs.Header.{header_bytes, slot_header}
-use Rattle.layout.specs.declared.Laid.{Laid}
 use Rattle.layout.specs.declared.RingLayout.{RingLayout}
 use Rattle.layout.specs.declared.Setup.{Setup}
 use Rattle.layout.specs.Layout.{slot_stride, data_base, data_stride, total, sizes, overflowing, laid, laid_out}
@@ -37,7 +37,7 @@ layout_before n p b =
       slot_capacity = p * b;
     }
 
-unfoldable pub laid_out_before : ℕ → ℕ → ℕ → Laid
+unfoldable pub laid_out_before : ℕ → ℕ → ℕ → Result RingLayout Error
 laid_out_before n p b = laid (first (sizes n p b ++ (overflowing n p b, Error.LayoutOverflow) ∷ [])) (layout_before n p b)
 
 abbrev pub layout_for_before : Setup → RingLayout
@@ -54,7 +54,7 @@ limits_before s =
 unfoldable pub admissible_before : Setup → Bool
 admissible_before s = passed (first (limits_before s ++ base_address s))
 
-unfoldable pub opens_before : Setup → ℕ → Laid
+unfoldable pub opens_before : Setup → ℕ → Result RingLayout Error
 opens_before s len = laid (first (limits_before s ++ (block_length s len ++ base_address s))) (layout_for_before s)
 
 unfoldable pub header_before : Setup → ℕ → Urb
@@ -69,9 +69,9 @@ with_headers_before s zero block = block
 with_headers_before s (suc i) block =
     store (i * (layout_for_before s).slot_stride) (header_bytes (header_before s i)) (with_headers_before s i block)
 
-unfoldable pub opened_or_before : Laid → Setup → List ℕ → OpenResult
-opened_or_before (Laid.Refused e) s block = record { answer = Answer.Refused e; stream = no_stream; block = block }
-opened_or_before (Laid.Layout layout) s block =
+unfoldable pub opened_or_before : Result RingLayout Error → Setup → List ℕ → OpenResult
+opened_or_before (Err e) s block = record { answer = Answer.Refused e; stream = no_stream; block = block }
+opened_or_before (Ok layout) s block =
     record { answer = Answer.Done; stream = opened_stream s; block = with_headers_before s s.slots (replicate (total_of s) 0) }
 
 unfoldable pub open_outcome_before : Setup → List ℕ → OpenResult

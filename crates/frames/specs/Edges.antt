@@ -1,15 +1,13 @@
 -- Cases of request 2026-04 that compute: R, and R with frames of 6 bytes, of a whole packet, and of no bytes or one more than a packet's.
-use Rattle.std.specs.Prelude.{ℕ, List, [], ◌∷◌, ◌++◌, ◌≡◌, pos, replicate}
+use Rattle.std.specs.Prelude.{ℕ, List, [], ◌∷◌, ◌++◌, ◌≡◌, pos, replicate, Ok, Err}
 use Rattle.error.specs.declared.Error.{Error}
 use Rattle.sys.specs.Bytes.{part}
-use Rattle.layout.specs.declared.Laid.{Laid}
 use Rattle.layout.specs.declared.Setup.{Setup}
 use Rattle.layout.specs.Layout.{whole_frames, laid_out}
 use Rattle.layout.specs.Numbers.{setup_from}
 use Rattle.layout.specs.Opening.{total_of}
 use Rattle.layout.specs.Places.{places_of}
 use Rattle.stream.specs.declared.Answer.{Answer}
-use Rattle.stream.specs.declared.Submission.{Submission}
 use Rattle.opening.specs.Opened.{opened_stream}
 use Rattle.opening.specs.Open.{opened_header, opened_block}
 use Rattle.opening.specs.Refusals.{opens}
@@ -34,14 +32,14 @@ packets_on lengths =
 -- A full slot that the kernel has no memory for.
 abbrev pub memory_on : Answer
 memory_on =
-    (made (submitted (Submission.Errno 12) (committed_on sixes 768).lent) (committed_on sixes 768).stream).answer
+    (made (submitted (Err 12) (committed_on sixes 768).lent) (committed_on sixes 768).stream).answer
 
 pub record FrameEdges : Type 0 where
   -- b 100, f 6, p 8: 96 a packet, capacity 768; total and data stride keep p × b.
   pub whole-96 : whole_frames 100 6 ≡ 96
   pub layout-6 :
       laid_out 4 8 100 6
-      ≡ Laid.Layout
+      ≡ Ok
       (record {
         slots = 4;
         slot_stride = 152;
@@ -69,6 +67,6 @@ pub record FrameEdges : Type 0 where
   pub memory-3200 : memory_on ≡ Answer.Refused (Error.UsbfsMemory 3200)
   -- f = b: the whole packet. f one above b, and zero: 33, though the block has the wrong length; but 5 before it.
   pub commit-250-whole : Commits (framed 4 100) 250 (100 ∷ 100 ∷ 50 ∷ 0 ∷ 0 ∷ 0 ∷ 0 ∷ 0 ∷ [])
-  pub frame-101 : Refuses Laid.Refused (opens (framed 4 101) 3968) 33
-  pub frame-0 : Refuses Laid.Refused (opens (framed 4 0) 0) 33
-  pub frame-0-slots-257 : Refuses Laid.Refused (opens (framed 257 0) 0) 5
+  pub frame-101 : Refuses Err (opens (framed 4 101) 3968) 33
+  pub frame-0 : Refuses Err (opens (framed 4 0) 0) 33
+  pub frame-0-slots-257 : Refuses Err (opens (framed 257 0) 0) 5

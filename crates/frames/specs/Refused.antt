@@ -1,8 +1,7 @@
 -- Request 2026-04: 33, f zero or above b, at opening after 5 and before 6; and 8 also meets such an f.
-use Rattle.std.specs.Prelude.{ℕ, Bool, true, false, ◌≡◌}
+use Rattle.std.specs.Prelude.{ℕ, Bool, true, false, ◌≡◌, Err}
 use Rattle.std.proofs.Math.Option.{none}
 use Rattle.error.specs.declared.Error.{Error}
-use Rattle.layout.specs.declared.Laid.{Laid}
 use Rattle.layout.specs.declared.Setup.{Setup}
 use Rattle.layout.specs.Layout.{bad_frame}
 use Rattle.layout.specs.Tests.{first}
@@ -17,6 +16,6 @@ has_bad_frame s = bad_frame s.packet_bytes s.frame_bytes
 
 pub record Refused33 : Type 0 where
   -- Opening refuses them where 1, 2, 3 and 5 don't, whatever the block's length and the base.
-  pub opening : (s : Setup) (len : ℕ) → has_bad_frame s ≡ true → first (limits_before s) ≡ none → opens s len ≡ Laid.Refused Error.FrameSize
+  pub opening : (s : Setup) (len : ℕ) → has_bad_frame s ≡ true → first (limits_before s) ≡ none → opens s len ≡ Err Error.FrameSize
   -- A record with them is met by 8, whatever else it holds.
   pub record-8 : (r : Stream) → has_bad_frame r.setup ≡ true → sound r ≡ false

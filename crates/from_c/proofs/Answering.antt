@@ -3,7 +3,7 @@
 use Prim.Native.Nat.{ℕ, ◌≤◌}
 use native.Mathlib.Omega.{arith}
 use mathlib.Core.Path.{◌≡◌, refl, sym, ap, ap₂, ◌∙◌}
-use mathlib.Core.Bool.{Bool, true, false, cond, ◌&&◌}
+use mathlib.Core.Bool.{Bool, true, false, cond, ◌&&◌, false≢true}
 use mathlib.Core.List.{List, [], ◌∷◌, map}
 use borrow.Author.Tests.{le-leb, eq-eqb, ne_eqb}
 use lib.Dec.{leb}
@@ -74,7 +74,7 @@ never (stop list) s l = never-8 s (stop (list_in list)) l
 never finish s l = never-8 s finish l
 
 -- a call whose row C has as it is
-pub told-called : (c : Call) → rule_from_c c ≡ rule c → (s : Stream) (r : Reply) (left : List ℕ) → Told c s r.answer r.stream left → Called (rule_from_c c) s (lent_to c) r left
+told-called : (c : Call) → rule_from_c c ≡ rule c → (s : Stream) (r : Reply) (left : List ℕ) → Told c s r.answer r.stream left → Called (rule_from_c c) s (lent_to c) r left
 unfolding made
 told-called c e s r left t =
     record {
@@ -93,7 +93,7 @@ unfolding is_image
 unread bytes s is off = refuted (sound s) (λ ok. go ok (leb (setup_in bytes).slots 256) (matches bytes) refl refl)
   where
     clash : (b : Bool) → b ≡ false → b ≡ true → ⊥
-    clash b p q = let z : ◌≡◌ {A = ℕ} 0 1 = cc in omega arith
+    clash b p q = false≢true (sym p ∙ q)
 
     go : sound s ≡ true → (few match : Bool) → leb (setup_in bytes).slots 256 ≡ few → matches bytes ≡ match → ⊥
     go ok true true e m = clash (is_image bytes) off (both _ _ (ap sound (sym (is ∙ rw (e, m))) ∙ ok) m)
@@ -221,3 +221,13 @@ module _ (c : Call) (bytes : List ℕ) (s : Stream) (is : Given bytes s) (reply 
       go : (b : Bool) → is_image bytes ≡ b → Returned (made_from_c c bytes out) n image' left out'
       go true e = moved _ _ _ out _ _ n image' out' (answered-on out e) (from_on out e) (leaves e) t
       go false e = moved _ _ _ out _ _ n image' out' (answered-off out e) (from-off out e) (kept-lent e) t
+
+-- both, of a call whose row C has as it is
+pub writable_told : (c : Call) (bytes : List ℕ) (s : Stream) (r : Reply) (left : List ℕ)
+    → Told c s r.answer r.stream left → Given bytes s → rule_from_c c ≡ rule c → Writable r bytes
+writable_told c bytes s r left t is e = writable c bytes s is r left (told-called c e s r left t)
+
+pub finished_told : (c : Call) (bytes : List ℕ) (s : Stream) (r : Reply) (left out : List ℕ) (n : ℕ) (image' out' : List ℕ)
+    → Returned (answered_by r bytes out) n image' [] out' → Told c s r.answer r.stream left → Given bytes s → rule_from_c c ≡ rule c
+    → Returned (made_from_c c bytes out) n image' left out'
+finished_told c bytes s r left out n image' out' done t is e = finished c bytes s is r left (told-called c e s r left t) out n image' out' done

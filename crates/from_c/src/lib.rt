@@ -12,21 +12,8 @@ ghost use Rattle.stream.specs.declared.Answer.{Answer};
 
 use encoding::write_numbers;
 use error::Error;
-use image::{bit, write_image};
+use image::write_image;
 use stream::{Answer, Completion, Reply};
-use sys::field::to_unsigned;
-
-// A signed number in 64 bits.
-fn to_unsigned64(x: i32) -> u64
-    ensures { result ≡ unsigned64 x }
-{
-    let low = to_unsigned(x) as u64;
-    if x < 0 {
-        18446744069414584320 + low
-    } else {
-        low
-    }
-}
 
 fn eight(kind: u64, value: u64) -> [u64; 8]
     ensures { result ≡ (kind ∷ value ∷ 0 ∷ 0 ∷ 0 ∷ 0 ∷ 0 ∷ 0 ∷ []) }
@@ -37,16 +24,14 @@ fn eight(kind: u64, value: u64) -> [u64; 8]
 fn completion_numbers(c: Completion) -> [u64; 8]
     ensures { result ≡ places 8 (5 ∷ map unsigned64 (figures_of c)) }
 {
-    let status = to_unsigned64(c.status);
-    let discarded = bit(c.was_discarded);
     [
         5,
-        status,
+        i64::from(c.status).cast_unsigned(),
         c.actual_bytes,
         c.requested_bytes,
         c.short_bytes,
         c.packet_errors,
-        discarded,
+        u64::from(c.was_discarded),
         0,
     ]
 }
@@ -69,28 +54,22 @@ fn eight_of(answer: Answer) -> [u64; 8]
 }
 
 // 0, or the refusal's number.
+#[tactic(auto, unfolding(stream::specs::Numbers::numbers_of))]
 fn number_of(answer: Answer) -> u32
     ensures { result ≡ (numbers_of answer).number }
 {
     match answer {
         Answer::Refused(e) => e.number(),
-        Answer::Done => 0,
-        Answer::Stopped(_) => 0,
-        Answer::Nothing => 0,
-        Answer::Slot(_) => 0,
-        Answer::Submit(_) => 0,
-        Answer::Completed(_) => 0,
-        Answer::Foreign => 0,
-        Answer::Yes => 0,
+        _ => 0,
     }
 }
 
 // Tells an answer: its eight numbers, and 0 or the refusal's number.
+#[tactic(auto, unfolding(crate::specs::Told::told))]
 pub fn tell(answer: Answer, out: &mut [u8]) -> u32
     ensures { Returned (told answer [] [] out.old) result [] [] out.new }
 {
-    let numbers = eight_of(answer);
-    write_numbers(&numbers, out);
+    write_numbers(&eight_of(answer), out);
     number_of(answer)
 }
 
@@ -107,11 +86,9 @@ pub fn answered(reply: Reply, image: &mut [u8], out: &mut [u8]) -> u32
     ensures { Returned (answered_by reply image.old out.old) result image.new []
         out.new }
 {
-    let answer = reply.answer;
-    if number_of(answer) == 8 {
+    if number_of(reply.answer) == 8 {
         return not_an_image(out);
     }
-    let s = reply.stream;
-    write_image(s, image);
-    tell(answer, out)
+    write_image(reply.stream, image);
+    tell(reply.answer, out)
 }

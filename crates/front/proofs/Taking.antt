@@ -1,5 +1,6 @@
 -- The front slot: what taking finds says what stands in the queue, and the record with the ring after the taking and a hand with that slot
 -- shows the ledger after it. Assumes nothing.
+use Rattle.std.specs.Prelude.{Some, None}
 use mathlib.Core.Path.{◌≡◌, refl, sym, ap, subst, ◌∙◌}
 use mathlib.Core.Bool.{true, false≢true}
 use mathlib.Core.List.{List, [], ◌∷◌}
@@ -7,7 +8,6 @@ use Prim.Native.Nat.{ℕ, ◌<◌}
 use native.Mathlib.Omega.{arith}
 use lib.Dec.{eqb}
 use borrow.Author.Tests.{eqb-true}
-use Rattle.ring.specs.declared.Found.{Found}
 use Rattle.ring.specs.declared.Hand.{Hand}
 use Rattle.ring.specs.declared.Ring.{Ring}
 use Rattle.ring.specs.declared.SlotState.{SlotState}
@@ -39,7 +39,7 @@ record Front (ring : Ring) (t : Taken) (i : ℕ) : Type 0 where
 
 -- what taking found, said of the queue
 module _ (ring : Ring) (t : Taken) (e : t ≡ taken ring) where
-  front_of : (i : ℕ) → t.slot ≡ Found.Slot i → Front ring t i
+  front_of : (i : ℕ) → t.slot ≡ Some i → Front ring t i
   unfolding taken taken_from
   front_of i found = go (queue_of ring) refl e
     where
@@ -55,7 +55,7 @@ module _ (ring : Ring) (t : Taken) (e : t ≡ taken ring) where
                 ap (λ (k : ℕ). Ring·with_state (Ring·with_queue ring rest) k SlotState.Filling) z;
           }
 
-  empty_of : t.slot ≡ Found.Nothing → queue_of ring ≡ []
+  empty_of : t.slot ≡ None → queue_of ring ≡ []
   unfolding taken taken_from
   empty_of found = go (queue_of ring) refl e
     where
@@ -69,7 +69,7 @@ module _ (s : Stream) (ok : sound s ≡ true) (wide : Wide s.ring) (idle : s.han
   unfolding with_hand view
   unmoved = rw (← idle) (sym (stored-view s ok wide))
 
-  module _ (found : t.slot ≡ Found.Nothing) (r : Reply) (a : r.answer ≡ Answer.Nothing) (p : r.stream ≡ s) where
+  module _ (found : t.slot ≡ None) (r : Reply) (a : r.answer ≡ Answer.Nothing) (p : r.stream ≡ s) where
     pub took-nothing : Gives s (take_front (view s).queue (view s) []) r []
     unfolding take_front view
     took-nothing =
@@ -82,7 +82,7 @@ module _ (s : Stream) (ok : sound s ≡ true) (wide : Wide s.ring) (idle : s.han
         subst (λ (q : List ℕ). Gives s (take_silent left q (view s)) r []) (sym (empty_of s.ring t e found))
         (record { answer = a; stream = p ∙ unmoved; block = refl })
 
-  module _ (i : ℕ) (found : t.slot ≡ Found.Slot i) where
+  module _ (i : ℕ) (found : t.slot ≡ Some i) where
     front : Front s.ring t i
     front = front_of s.ring t e i found
 

@@ -12,7 +12,7 @@ ghost use Rattle.front.specs.Front.{take_silent, after_silence};
 
 use gate::with_hand;
 use layout::Setup;
-use ring::{Found, Hand};
+use ring::Hand;
 use slot::fill_silence;
 use stream::{Answer, Reply, Stream};
 
@@ -21,18 +21,13 @@ pub fn take_front(s: Stream) -> Reply
     requires { (sound s ≡ true) × (s.hand ≡ Hand.Idle) }
     ensures { Gives s (take_front (view s).queue (view s) []) result [] }
 {
-    let ring = s.ring;
-    let taken = ring.take_free();
-    let slot = taken.slot;
-    match slot {
-        Found::Slot(i) => {
-            let rest = taken.ring;
-            Reply {
-                stream: with_hand(s, rest, Hand::Held(i)),
-                answer: Answer::Slot(i),
-            }
-        }
-        Found::Nothing => Reply {
+    let taken = s.ring.take_free();
+    match taken.slot {
+        Some(i) => Reply {
+            stream: with_hand(s, taken.ring, Hand::Held(i)),
+            answer: Answer::Slot(i),
+        },
+        None => Reply {
             stream: s,
             answer: Answer::Nothing,
         },
@@ -44,18 +39,13 @@ pub fn take_silent(s: Stream, left: usize) -> Reply
     requires { (sound s ≡ true) × (s.hand ≡ Hand.Idle) }
     ensures { Gives s (take_silent left (view s).queue (view s)) result [] }
 {
-    let ring = s.ring;
-    let taken = ring.take_free();
-    let slot = taken.slot;
-    match slot {
-        Found::Slot(i) => {
-            let rest = taken.ring;
-            Reply {
-                stream: with_hand(s, rest, Hand::Silent(i, left)),
-                answer: Answer::Submit(i),
-            }
-        }
-        Found::Nothing => Reply {
+    let taken = s.ring.take_free();
+    match taken.slot {
+        Some(i) => Reply {
+            stream: with_hand(s, taken.ring, Hand::Silent(i, left)),
+            answer: Answer::Submit(i),
+        },
+        None => Reply {
             stream: s,
             answer: Answer::Nothing,
         },
@@ -70,9 +60,7 @@ pub fn silence_taken(setup: Setup, hand: Hand, block: &mut [u8])
     ensures { block.new ≡ after_silence setup hand block.old }
 {
     match hand {
-        Hand::Idle => {}
-        Hand::Held(_) => {}
-        Hand::Sending(_) => {}
+        Hand::Idle | Hand::Held(_) | Hand::Sending(_) => {}
         Hand::Silent(i, _) => fill_silence(setup, block, i),
     }
 }

@@ -1,5 +1,6 @@
 -- What the entries of each call say, by its answer.
 -- Assumes nothing.
+use Rattle.std.specs.Prelude.{Some, Ok, Err}
 use mathlib.Core.Path.{◌≡◌, refl}
 use mathlib.Core.Bool.{Bool, true, false, cond, not, ◌||◌, ◌&&◌}
 use mathlib.Core.List.{List}
@@ -12,11 +13,8 @@ use Rattle.error.specs.Errno.{from_errno, out_of_memory}
 use Rattle.error.specs.Number.{number_of}
 use Rattle.layout.specs.declared.Setup.{Setup}
 use Rattle.layout.specs.Opening.{masked_of, layout_for}
-use Rattle.ring.specs.declared.Found.{Found}
 use Rattle.stream.specs.declared.Answer.{Answer}
 use Rattle.stream.specs.declared.Completion.{Completion}
-use Rattle.stream.specs.declared.Reaping.{Reaping}
-use Rattle.stream.specs.declared.Submission.{Submission}
 use Rattle.ledger.specs.Notice.{cookie_of, slot_at, slot_of_urb}
 use Rattle.ledger.specs.Calls.{Call, submitted, reaped, give_back}
 use Rattle.ledger.proofs.Found.{found-past, found_at}
@@ -72,7 +70,7 @@ says-shut s c e log shut stays kept =
     }
 
 -- submitted with Accepted, not 6 or 9
-pub says-accepted : (s : Setup) (block : List ℕ) (a : Answer) (log : List Entry) (i : ℕ) → last_submit log ≡ some i → (said a).refusal ≡ 0 → (said a).completion ≡ false → Says s (record { call = submitted Submission.Accepted block; answer = a }) log (some i) none (said a).named (said a).submit false (said a).stopped
+pub says-accepted : (s : Setup) (block : List ℕ) (a : Answer) (log : List Entry) (i : ℕ) → last_submit log ≡ some i → (said a).refusal ≡ 0 → (said a).completion ≡ false → Says s (record { call = submitted (Ok tt) block; answer = a }) log (some i) none (said a).named (said a).submit false (said a).stopped
 unfolding acceptance notice from_hand six_or_nine asked slot_addressed given
 says-accepted s block a log i last r k =
     record { acc-is = rw r last; ntc-is = rw (r, k); nam-is = refl; sub_is = refl; back_is = rw r; stp-is = refl }
@@ -98,7 +96,7 @@ errno-kept errno x =
     memory ErrnoContext.Other = (refl, refl)
 
 -- submitted with an errno, not 6 or 9: the hand's slot comes back
-pub says-errno : (s : Setup) (errno : ℕ) (block : List ℕ) (x : ErrnoContext) (log : List Entry) → Says s (record { call = submitted (Submission.Errno errno) block; answer = Answer.Refused (from_errno errno x) }) log none none none none true false
+pub says-errno : (s : Setup) (errno : ℕ) (block : List ℕ) (x : ErrnoContext) (log : List Entry) → Says s (record { call = submitted (Err errno) block; answer = Answer.Refused (from_errno errno x) }) log none none none none true false
 unfolding acceptance notice from_hand asked slot_addressed said given committed_back
 says-errno s errno block x log =
     record {
@@ -120,28 +118,28 @@ unfolding acceptance notice from_hand six_or_nine asked said slot_addressed give
 says-given-back s log = record { acc-is = refl; ntc-is = refl; nam-is = refl; sub_is = refl; back_is = refl; stp-is = refl }
 
 -- a notice taken, and an address that gives neither Completion nor 13
-pub says-noticed : (s : Setup) (address : ℕ) (block : List ℕ) (c : Completion) (log : List Entry) → Says s (record { call = reaped (Reaping.Address address) block; answer = Answer.Completed c }) log none (some (slot_at_address s address)) none none false false
+pub says-noticed : (s : Setup) (address : ℕ) (block : List ℕ) (c : Completion) (log : List Entry) → Says s (record { call = reaped (Ok address) block; answer = Answer.Completed c }) log none (some (slot_at_address s address)) none none false false
 unfolding acceptance notice from_hand six_or_nine asked said slot_addressed given
 says-noticed s address block c log =
     record { acc-is = refl; ntc-is = refl; nam-is = refl; sub_is = refl; back_is = refl; stp-is = refl }
 
-pub says-gone : (s : Setup) (address : ℕ) (block : List ℕ) (log : List Entry) → Says s (record { call = reaped (Reaping.Address address) block; answer = Answer.Refused Error.Disconnected }) log none (some (slot_at_address s address)) none none false false
+pub says-gone : (s : Setup) (address : ℕ) (block : List ℕ) (log : List Entry) → Says s (record { call = reaped (Ok address) block; answer = Answer.Refused Error.Disconnected }) log none (some (slot_at_address s address)) none none false false
 unfolding acceptance notice from_hand six_or_nine asked said slot_addressed given
 says-gone s address block log =
     record { acc-is = refl; ntc-is = refl; nam-is = refl; sub_is = refl; back_is = refl; stp-is = refl }
 
-pub says-foreign : (s : Setup) (address : ℕ) (block : List ℕ) (log : List Entry) → Says s (record { call = reaped (Reaping.Address address) block; answer = Answer.Foreign }) log none none none none false false
+pub says-foreign : (s : Setup) (address : ℕ) (block : List ℕ) (log : List Entry) → Says s (record { call = reaped (Ok address) block; answer = Answer.Foreign }) log none none none none false false
 unfolding acceptance notice from_hand six_or_nine asked said slot_addressed given
 says-foreign s address block log =
     record { acc-is = refl; ntc-is = refl; nam-is = refl; sub_is = refl; back_is = refl; stp-is = refl }
 
-pub says-stray : (s : Setup) (address : ℕ) (block : List ℕ) (log : List Entry) → Says s (record { call = reaped (Reaping.Address address) block; answer = Answer.Refused Error.StrayNotice }) log none none none none false false
+pub says-stray : (s : Setup) (address : ℕ) (block : List ℕ) (log : List Entry) → Says s (record { call = reaped (Ok address) block; answer = Answer.Refused Error.StrayNotice }) log none none none none false false
 unfolding acceptance notice from_hand six_or_nine asked said slot_addressed given
 says-stray s address block log =
     record { acc-is = refl; ntc-is = refl; nam-is = refl; sub_is = refl; back_is = refl; stp-is = refl }
 
 -- the slot that an address names is the slot at that address
-pub slot-addressed : (s : Setup) (address : ℕ) (block : List ℕ) (i : ℕ) → slot_of_urb s address block ≡ Found.Slot i → slot_at_address s address ≡ i
+pub slot-addressed : (s : Setup) (address : ℕ) (block : List ℕ) (i : ℕ) → slot_of_urb s address block ≡ Some i → slot_at_address s address ≡ i
 unfolding slot_of_urb slot_at slot_at_address
 slot-addressed s address block i p =
     let base = masked_of s.tagged s.base in

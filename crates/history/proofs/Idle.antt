@@ -1,4 +1,5 @@
 -- reaped and finish leave the hand as it is, by the cases of their rules; a stop that gives Done finds it Idle, and leaves it so. Assumes nothing.
+use Rattle.std.specs.Prelude.{Option, Some, None, Result, Ok, Err}
 use Prim.Native.Nat.{ℕ}
 use mathlib.Core.Path.{◌≡◌, refl}
 use mathlib.Core.Bool.{Bool, true, false, cond, false≢true}
@@ -9,10 +10,8 @@ use Rattle.error.specs.declared.Error.{Error}
 use Rattle.error.proofs.Numbers.{never-0}
 use Rattle.layout.specs.declared.Setup.{Setup}
 use Rattle.layout.specs.Opening.{total_of}
-use Rattle.ring.specs.declared.Found.{Found}
 use Rattle.ring.specs.declared.Hand.{Hand}
 use Rattle.stream.specs.declared.Answer.{Answer}
-use Rattle.stream.specs.declared.Reaping.{Reaping}
 use Rattle.stream.specs.Numbers.{numbers_of}
 use Rattle.ledger.specs.Ledger.{Ledger, Mark, home, out, discarded, with_queue, with_marks, with_flags, with_totals, marked, mark_of, returned}
 use Rattle.ledger.specs.Notice.{slot_of_urb}
@@ -26,7 +25,7 @@ use Rattle.history.specs.Words.{said}
 use Rattle.history.specs.Shutdown.{is_reaped_or_finish}
 
 -- what holds of every reaped and of finish holds of each of these calls
-pub reaped-or-finish : (P : Call → Type 0) → ((r : Reaping) (block : List ℕ) → P (reaped r block)) → P finish → (c : Call) → is_reaped_or_finish c ≡ true → P c
+pub reaped-or-finish : (P : Call → Type 0) → ((r : Result ℕ ℕ) (block : List ℕ) → P (reaped r block)) → P finish → (c : Call) → is_reaped_or_finish c ≡ true → P c
 unfolding is_reaped_or_finish
 reaped-or-finish P f g (turn block) p = absurd (false≢true p)
 reaped-or-finish P f g (commit bytes block) p = absurd (false≢true p)
@@ -64,17 +63,17 @@ module _ (s : Setup) (l : Ledger) where
   noticed-keeps out i block = refl
   noticed-keeps discarded i block = refl
 
-  address-keeps : (f : Found) (block : List ℕ) → Keeps (by_address s f l block)
+  address-keeps : (f : Option ℕ) (block : List ℕ) → Keeps (by_address s f l block)
   unfolding by_address
-  address-keeps Found.Nothing block = refl
-  address-keeps (Found.Slot i) block = noticed-keeps (mark_of l i) i block
+  address-keeps None block = refl
+  address-keeps (Some i) block = noticed-keeps (mark_of l i) i block
 
-  reply-keeps : (r : Reaping) (block : List ℕ) → Keeps (reaped_idle r s l block)
+  reply-keeps : (r : Result ℕ ℕ) (block : List ℕ) → Keeps (reaped_idle r s l block)
   unfolding reaped_idle by_errno
-  reply-keeps (Reaping.Errno e) block = refl
-  reply-keeps (Reaping.Address address) block = address-keeps (slot_of_urb s address block) block
+  reply-keeps (Err e) block = refl
+  reply-keeps (Ok address) block = address-keeps (slot_of_urb s address block) block
 
-  reaped-keeps : (r : Reaping) (block : List ℕ) → Keeps (Reaped.reaped r s l block)
+  reaped-keeps : (r : Result ℕ ℕ) (block : List ℕ) → Keeps (Reaped.reaped r s l block)
   unfolding Reaped.reaped on_block refused
   reaped-keeps r block =
       by-test (eqb (length block) (total_of s)) (when_idle (reaped_idle r) s l block) (refused Error.BlockLength l block)

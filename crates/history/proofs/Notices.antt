@@ -1,5 +1,6 @@
 -- reaped: the words agree after a notice taken, by the slot's mark, and after every other reply.
 -- Assumes nothing.
+use Rattle.std.specs.Prelude.{Option, Some, None, Result, Ok, Err}
 use mathlib.Core.Path.{◌≡◌, refl, sym, ap, subst, ◌∙◌}
 use mathlib.Core.Bool.{Bool, true, false, cond}
 use mathlib.Core.List.{List, [], ◌∷◌, ◌++◌}
@@ -12,11 +13,9 @@ use Rattle.error.specs.declared.Error.{Error}
 use Rattle.error.specs.declared.ErrnoContext.{ErrnoContext}
 use Rattle.error.specs.Errno.{from_errno}
 use Rattle.layout.specs.declared.Setup.{Setup}
-use Rattle.ring.specs.declared.Found.{Found}
 use Rattle.ring.specs.declared.Hand.{Hand}
 use Rattle.ring.specs.Slots.{one}
 use Rattle.stream.specs.declared.Answer.{Answer}
-use Rattle.stream.specs.declared.Reaping.{Reaping}
 use Rattle.ledger.specs.Ledger.{Ledger, Mark, home, out, discarded, with_queue, with_marks, with_totals, marked, mark_of, returned}
 use Rattle.ledger.specs.Notice.{slot_of_urb, completion_of}
 use Rattle.ledger.specs.Step.{Next, refused, when_idle}
@@ -60,7 +59,7 @@ module _ (s : Setup) (l : Ledger) (v : Valid s.slots l) (log : List Entry) (a : 
   -- reaped
   module _ (idle : l.hand ≡ Hand.Idle) (address : ℕ) (block : List ℕ) where
     -- slot i, which is out, noticed
-    at-notice : (i : ℕ) → slot_at_address s address ≡ i → away (mark_of l i) ≡ 1 → (answer : Answer) → Says s (record { call = reaped (Reaping.Address address) block; answer = answer }) log none (some (slot_at_address s address)) none none false false → Agrees s l.hand (l.queue ++ (i ∷ [])) (set l.marks i home) (record { call = reaped (Reaping.Address address) block; answer = answer } ∷ log)
+    at-notice : (i : ℕ) → slot_at_address s address ≡ i → away (mark_of l i) ≡ 1 → (answer : Answer) → Says s (record { call = reaped (Ok address) block; answer = answer }) log none (some (slot_at_address s address)) none none false false → Agrees s l.hand (l.queue ++ (i ∷ [])) (set l.marks i home) (record { call = reaped (Ok address) block; answer = answer } ∷ log)
     unfolding mark_of one
     at-notice i at gone answer w =
         subst (λ (h : Hand). Agrees s h (l.queue ++ (i ∷ [])) (set l.marks i home) (entry ∷ log)) (sym idle)
@@ -68,7 +67,7 @@ module _ (s : Setup) (l : Ledger) (v : Valid s.slots l) (log : List Entry) (a : 
         (v.queued i below ∙ ap one (away-not-free l i not_home)))
       where
         entry : Entry
-        entry = record { call = reaped (Reaping.Address address) block; answer = answer }
+        entry = record { call = reaped (Ok address) block; answer = answer }
 
         not_home : mark_of l i ≡ home → ⊥
         not_home e = away≢home (sym gone ∙ ap away e)
@@ -76,9 +75,9 @@ module _ (s : Setup) (l : Ledger) (v : Valid s.slots l) (log : List Entry) (a : 
         below : i < s.slots
         below = away-below s.slots l v i not_home
 
-    at_mark : (i : ℕ) → slot_at_address s address ≡ i → (m : Mark) → mark_of l i ≡ m → After s (reaped (Reaping.Address address) block) log l.totals (noticed s m i l block)
+    at_mark : (i : ℕ) → slot_at_address s address ≡ i → (m : Mark) → mark_of l i ≡ m → After s (reaped (Ok address) block) log l.totals (noticed s m i l block)
     unfolding noticed refused with_totals returned with_queue marked with_marks lent_to mark_of one_completed
-    at_mark i at home e = at_rest s l v log a (reaped (Reaping.Address address) block) (Answer.Refused Error.StrayNotice) block (says-stray s address block log)
+    at_mark i at home e = at_rest s l v log a (reaped (Ok address) block) (Answer.Refused Error.StrayNotice) block (says-stray s address block log)
     at_mark i at out e = by-status (is_gone (completion_of s i false block).status)
       where
         fresh : after_discard i log ≡ false
@@ -92,9 +91,9 @@ module _ (s : Setup) (l : Ledger) (v : Valid s.slots l) (log : List Entry) (a : 
               lent = block;
             }
 
-        by-status : (b : Bool) → After s (reaped (Reaping.Address address) block) log l.totals (next b)
+        by-status : (b : Bool) → After s (reaped (Ok address) block) log l.totals (next b)
         by-status true =
-            let w = subst (λ (k : ℕ). Says s (record { call = reaped (Reaping.Address address) block; answer = Answer.Refused Error.Disconnected }) log none (some k) none none false false) at (says-gone s address block log) in
+            let w = subst (λ (k : ℕ). Says s (record { call = reaped (Ok address) block; answer = Answer.Refused Error.Disconnected }) log none (some k) none none false false) at (says-gone s address block log) in
             record {
               agrees = at-notice i at (ap away e ∙ away-out) (Answer.Refused Error.Disconnected) (says-gone s address block log);
               moves = one-completed i w fresh l.totals;
@@ -102,7 +101,7 @@ module _ (s : Setup) (l : Ledger) (v : Valid s.slots l) (log : List Entry) (a : 
             }
         by-status false =
             let c = completion_of s i false block in
-            let w = subst (λ (k : ℕ). Says s (record { call = reaped (Reaping.Address address) block; answer = Answer.Completed c }) log none (some k) none none false false) at (says-noticed s address block c log) in
+            let w = subst (λ (k : ℕ). Says s (record { call = reaped (Ok address) block; answer = Answer.Completed c }) log none (some k) none none false false) at (says-noticed s address block c log) in
             record {
               agrees = at-notice i at (ap away e ∙ away-out) (Answer.Completed c) (says-noticed s address block c log);
               moves = one-completed i w fresh l.totals;
@@ -110,35 +109,35 @@ module _ (s : Setup) (l : Ledger) (v : Valid s.slots l) (log : List Entry) (a : 
             }
     at_mark i at discarded e =
         let c = completion_of s i true block in
-        let w = subst (λ (k : ℕ). Says s (record { call = reaped (Reaping.Address address) block; answer = Answer.Completed c }) log none (some k) none none false false) at (says-noticed s address block c log) in
+        let w = subst (λ (k : ℕ). Says s (record { call = reaped (Ok address) block; answer = Answer.Completed c }) log none (some k) none none false false) at (says-noticed s address block c log) in
         record {
           agrees = at-notice i at (ap away e ∙ away-discarded) (Answer.Completed c) (says-noticed s address block c log);
           moves = none-completed i w (stale-out (mark_of l i) (after_discard i log) e (a.marks-agree.discard-is i)) l.totals;
           underruns-kept = refl;
         }
 
-    at_address : (f : Found) → slot_of_urb s address block ≡ f → After s (reaped (Reaping.Address address) block) log l.totals (by_address s f l block)
+    at_address : (f : Option ℕ) → slot_of_urb s address block ≡ f → After s (reaped (Ok address) block) log l.totals (by_address s f l block)
     unfolding by_address
-    at_address Found.Nothing e = at_rest s l v log a (reaped (Reaping.Address address) block) Answer.Foreign block (says-foreign s address block log)
-    at_address (Found.Slot i) e = at_mark i (slot-addressed s address block i e) (mark_of l i) refl
+    at_address None e = at_rest s l v log a (reaped (Ok address) block) Answer.Foreign block (says-foreign s address block log)
+    at_address (Some i) e = at_mark i (slot-addressed s address block i e) (mark_of l i) refl
 
-  at-errno : (e : ℕ) (block : List ℕ) → After s (reaped (Reaping.Errno e) block) log l.totals (by_errno e l block)
+  at-errno : (e : ℕ) (block : List ℕ) → After s (reaped (Err e) block) log l.totals (by_errno e l block)
   unfolding by_errno asked
   at-errno e block = by-errno (eqb e 11)
     where
-      by-errno : (b : Bool) → After s (reaped (Reaping.Errno e) block) log l.totals (record { ledger = l; answer = cond b Answer.Nothing (Answer.Refused (from_errno e ErrnoContext.Other)); lent = block })
-      by-errno true = at_rest s l v log a (reaped (Reaping.Errno e) block) Answer.Nothing block (says_nothing s (reaped (Reaping.Errno e) block) log refl)
+      by-errno : (b : Bool) → After s (reaped (Err e) block) log l.totals (record { ledger = l; answer = cond b Answer.Nothing (Answer.Refused (from_errno e ErrnoContext.Other)); lent = block })
+      by-errno true = at_rest s l v log a (reaped (Err e) block) Answer.Nothing block (says_nothing s (reaped (Err e) block) log refl)
       by-errno false =
           let error = from_errno e ErrnoContext.Other in
-          at_rest s l v log a (reaped (Reaping.Errno e) block) (Answer.Refused error) block
-          (says-refusal s (reaped (Reaping.Errno e) block) error log refl (back-errno e ErrnoContext.Other))
+          at_rest s l v log a (reaped (Err e) block) (Answer.Refused error) block
+          (says-refusal s (reaped (Err e) block) error log refl (back-errno e ErrnoContext.Other))
 
-  at-reaping : l.hand ≡ Hand.Idle → (r : Reaping) (block : List ℕ) → After s (reaped r block) log l.totals (reaped_idle r s l block)
+  at-reaping : l.hand ≡ Hand.Idle → (r : Result ℕ ℕ) (block : List ℕ) → After s (reaped r block) log l.totals (reaped_idle r s l block)
   unfolding reaped_idle
-  at-reaping idle (Reaping.Errno e) block = at-errno e block
-  at-reaping idle (Reaping.Address address) block = at_address idle address block (slot_of_urb s address block) refl
+  at-reaping idle (Err e) block = at-errno e block
+  at-reaping idle (Ok address) block = at_address idle address block (slot_of_urb s address block) refl
 
-  pub at-reaped : (r : Reaping) (block : List ℕ) → After s (reaped r block) log l.totals (Reaped.reaped r s l block)
+  pub at-reaped : (r : Result ℕ ℕ) (block : List ℕ) → After s (reaped r block) log l.totals (Reaped.reaped r s l block)
   unfolding Reaped.reaped
   at-reaped r block =
       on-block s l v log a (reaped r block) (when_idle (reaped_idle r)) block

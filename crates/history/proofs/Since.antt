@@ -1,5 +1,6 @@
 -- What a list of reaped and finish alone changes after a stop that gave Done: none is accepted, so a slot is out as long as no notice taken names it; each
 -- notice is after a discard, so no figure adds to a sum; and the hand stays. Assumes nothing.
+use Rattle.std.specs.Prelude.{Result, Ok, Err}
 use Prim.Native.Nat.{ℕ}
 use native.Mathlib.Omega.{arith}
 use mathlib.Core.Path.{◌≡◌, refl, ◌∙◌}
@@ -11,7 +12,6 @@ use Rattle.ring.specs.Slots.{one}
 use Rattle.ring.proofs.Truth.{first, second}
 use Rattle.stream.specs.declared.Answer.{Answer}
 use Rattle.stream.specs.declared.Completion.{Completion}
-use Rattle.stream.specs.declared.Reaping.{Reaping}
 use Rattle.ledger.specs.Notice.{completion_of}
 use Rattle.ledger.specs.Calls.{Call, reaped, lent_to, step_of}
 use Rattle.history.specs.History.{ledger_after}
@@ -34,9 +34,9 @@ unfolding acceptance given asked
 none-accepted =
     reaped-or-finish (λ (c : Call). (a : Answer) (log : List Entry) → acceptance (record { call = c; answer = a }) log ≡ none) by-reply (λ a log. refl)
   where
-    by-reply : (r : Reaping) (block : List ℕ) (a : Answer) (log : List Entry) → acceptance (record { call = reaped r block; answer = a }) log ≡ none
-    by-reply (Reaping.Errno e) block a log = refl
-    by-reply (Reaping.Address address) block a log = refl
+    by-reply : (r : Result ℕ ℕ) (block : List ℕ) (a : Answer) (log : List Entry) → acceptance (record { call = reaped r block; answer = a }) log ≡ none
+    by-reply (Err e) block a log = refl
+    by-reply (Ok address) block a log = refl
 
 no-turn : (c : Call) → is_reaped_or_finish c ≡ true → is_turn c ≡ false
 unfolding is_turn

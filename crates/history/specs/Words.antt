@@ -1,12 +1,10 @@
 -- What demand 3's words mean, by the list of calls and its answers alone. A log is held newest first.
-use Rattle.std.specs.Prelude.{ℕ, suc, ◌-◌, ◌/◌, Bool, true, false, cond, not, ◌||◌, ◌&&◌, List, [], ◌∷◌, eqb, length}
+use Rattle.std.specs.Prelude.{ℕ, suc, ◌-◌, ◌/◌, Bool, true, false, cond, not, ◌||◌, ◌&&◌, List, [], ◌∷◌, eqb, length, Ok, Err}
 use Rattle.std.proofs.Math.Option.{Option, none, some}
 use Rattle.error.specs.Number.{number_of}
 use Rattle.layout.specs.declared.Setup.{Setup}
 use Rattle.layout.specs.Opening.{masked_of, layout_for}
 use Rattle.stream.specs.declared.Answer.{Answer}
-use Rattle.stream.specs.declared.Reaping.{Reaping}
-use Rattle.stream.specs.declared.Submission.{Submission}
 use Rattle.ledger.specs.Calls.{Call, turn, commit, commit_full, commit_packets, submitted, reaped, give_back, start, stop, finish, step_of}
 use Rattle.history.specs.History.{ledger_after}
 
@@ -61,10 +59,10 @@ asked (turn block) = nothing_asked
 asked (commit bytes block) = nothing_asked
 asked (commit_full block) = nothing_asked
 asked (commit_packets lengths block) = nothing_asked
-asked (submitted Submission.Accepted block) = record { accepted = true; errno = false; gives_back = false; address = none }
-asked (submitted (Submission.Errno e) block) = record { accepted = false; errno = true; gives_back = false; address = none }
-asked (reaped (Reaping.Errno e) block) = nothing_asked
-asked (reaped (Reaping.Address a) block) = record { accepted = false; errno = false; gives_back = false; address = some a }
+asked (submitted (Ok tt) block) = record { accepted = true; errno = false; gives_back = false; address = none }
+asked (submitted (Err e) block) = record { accepted = false; errno = true; gives_back = false; address = none }
+asked (reaped (Err e) block) = nothing_asked
+asked (reaped (Ok a) block) = record { accepted = false; errno = false; gives_back = false; address = some a }
 asked give_back = record { accepted = false; errno = false; gives_back = true; address = none }
 asked start = nothing_asked
 asked (stop list) = nothing_asked

@@ -6,6 +6,6 @@ mod numbers;
 mod read;
 mod write;
 
-pub use numbers::{bit, size};
+pub use numbers::size;
 pub use read::{policy_from, read_image};
 pub use write::write_image;

@@ -1,7 +1,6 @@
 // The numbers of an image's parts, and where the parts start.
-ghost use Rattle.std.specs.Prelude.{◌≡◌, cond, [], ◌∷◌, ◌≤◌};
+ghost use Rattle.std.specs.Prelude.{◌≡◌, cond, ◌≤◌};
 ghost use Rattle.layout.specs.Numbers.{policy_number};
-ghost use Rattle.ring.specs.Slots.{one};
 ghost use Rattle.image.specs.Image.{hand_numbers, setup_for, counter_numbers};
 ghost use Rattle.image.specs.Reading.{queue_at, counters_at, image_size, header_for};
 
@@ -44,13 +43,7 @@ pub fn size(n: usize) -> usize
     counters_at(n) + 8 * 8
 }
 
-// 1 for yes, 0 for no.
-pub fn bit(flag: bool) -> u64
-    ensures { result ≡ one flag }
-{
-    if flag { 1 } else { 0 }
-}
-
+#[tactic(auto, unfolding(layout::specs::Numbers::policy_number))]
 fn policy_number(policy: Underrun) -> u64
     ensures { result ≡ policy_number policy }
 {
@@ -61,38 +54,15 @@ fn policy_number(policy: Underrun) -> u64
     }
 }
 
-// A hand's three numbers.
-#[derive(Clone, Copy)]
-pub struct HandNumbers {
-    pub kind: u64,
-    pub slot: u64,
-    pub left: u64,
-}
-
-fn hand_numbers(hand: Hand) -> HandNumbers
-    ensures { (result.kind ∷ result.slot ∷ result.left ∷ []) ≡ hand_numbers hand }
+#[tactic(auto, unfolding(crate::specs::Image::hand_numbers))]
+fn hand_numbers(hand: Hand) -> [u64; 3]
+    ensures { result ≡ hand_numbers hand }
 {
     match hand {
-        Hand::Idle => HandNumbers {
-            kind: 0,
-            slot: 0,
-            left: 0,
-        },
-        Hand::Held(i) => HandNumbers {
-            kind: 1,
-            slot: i as u64,
-            left: 0,
-        },
-        Hand::Sending(i) => HandNumbers {
-            kind: 2,
-            slot: i as u64,
-            left: 0,
-        },
-        Hand::Silent(i, left) => HandNumbers {
-            kind: 3,
-            slot: i as u64,
-            left: left as u64,
-        },
+        Hand::Idle => [0, 0, 0],
+        Hand::Held(i) => [1, i as u64, 0],
+        Hand::Sending(i) => [2, i as u64, 0],
+        Hand::Silent(i, left) => [3, i as u64, left as u64],
     }
 }
 
@@ -104,19 +74,18 @@ pub fn place(slot: u8, is_used: bool) -> u32
 }
 
 // Internal: the header's numbers.
+#[tactic(auto, unfolding(crate::specs::Reading::header_for))]
 pub fn header_numbers(n: usize, used: usize) -> [u64; 6]
     requires { n ≤ 256 }
     ensures { result ≡ header_for n used }
 {
-    let queue = queue_at(n);
-    let counters = counters_at(n);
     [
         n as u64,
         used as u64,
         SETUP_AT as u64,
         STATES_AT as u64,
-        queue as u64,
-        counters as u64,
+        queue_at(n) as u64,
+        counters_at(n) as u64,
     ]
 }
 
@@ -124,31 +93,27 @@ pub fn header_numbers(n: usize, used: usize) -> [u64; 6]
 pub fn setup_numbers(setup: Setup, hand: Hand, flags: Flags) -> [u64; 14]
     ensures { result ≡ setup_for setup hand flags.started flags.armed }
 {
-    let h = hand_numbers(hand);
-    let policy = setup.underrun;
-    let number = policy_number(policy);
-    let tag = bit(setup.tagged);
-    let started = bit(flags.started);
-    let armed = bit(flags.armed);
+    let [kind, slot, left] = hand_numbers(hand);
     [
         setup.slots as u64,
         setup.packets_per_urb as u64,
         setup.packet_bytes as u64,
         setup.endpoint as u64,
-        number,
+        policy_number(setup.underrun),
         setup.silence_byte as u64,
         setup.base as u64,
-        tag,
+        u64::from(setup.tagged),
         setup.frame_bytes as u64,
-        h.kind,
-        h.slot,
-        h.left,
-        started,
-        armed,
+        kind,
+        slot,
+        left,
+        u64::from(flags.started),
+        u64::from(flags.armed),
     ]
 }
 
 // The counters' numbers.
+#[tactic(auto, unfolding(crate::specs::Image::counter_numbers))]
 pub fn counter_numbers(t: IsoStats) -> [u64; 8]
     ensures { result ≡ counter_numbers t }
 {

@@ -1,5 +1,5 @@
 // Reading an image.
-ghost use Rattle.std.specs.Prelude.{◌≡◌, false, cond, ◌&&◌, ◌+◌, ◌≤◌, leb, length, take, drop, get_or, replicate};
+ghost use Rattle.std.specs.Prelude.{◌≡◌, false, cond, ◌&&◌, ◌+◌, ◌≤◌, leb, length, take, drop, get_or, MatchOption};
 ghost use Prim.Native.Nat;
 ghost use Rattle.sys.specs.Bytes.{field};
 ghost use Rattle.layout.specs.Numbers.{policy_from};
@@ -24,31 +24,27 @@ use stream::{Flags, IsoStats, Stream};
 use sys::field::{get_u32, get_u64};
 
 // The policy of a number; any that names none is read as Continue.
+#[tactic(auto, unfolding(layout::specs::Numbers::policy_from))]
 pub fn policy_from(number: u64) -> Underrun
     ensures { result ≡ policy_from number }
 {
-    if number == 1 {
-        return Underrun::FillSilence;
+    match number {
+        1 => Underrun::FillSilence,
+        2 => Underrun::Error,
+        _ => Underrun::Continue,
     }
-    if number == 2 {
-        return Underrun::Error;
-    }
-    Underrun::Continue
 }
 
+#[tactic(auto, unfolding(crate::specs::Reading::hand_from))]
 fn hand_from(kind: u64, slot: u64, left: u64) -> Hand
     ensures { result ≡ hand_from kind slot left }
 {
-    if kind == 0 {
-        return Hand::Idle;
+    match kind {
+        0 => Hand::Idle,
+        1 => Hand::Held(slot as usize),
+        2 => Hand::Sending(slot as usize),
+        _ => Hand::Silent(slot as usize, left as usize),
     }
-    if kind == 1 {
-        return Hand::Held(slot as usize);
-    }
-    if kind == 2 {
-        return Hand::Sending(slot as usize);
-    }
-    Hand::Silent(slot as usize, left as usize)
 }
 
 // Internal: opening's values.
@@ -56,13 +52,12 @@ fn read_setup(image: &[u8]) -> Setup
     requires { image_size 0 ≤ length image.now }
     ensures { result ≡ setup_in image.now }
 {
-    let policy = policy_from(get_u64(image, SETUP_AT + 32));
     Setup {
         slots: get_u64(image, SETUP_AT) as usize,
         packets_per_urb: get_u64(image, SETUP_AT + 8) as usize,
         packet_bytes: get_u64(image, SETUP_AT + 16) as usize,
         endpoint: (get_u64(image, SETUP_AT + 24) % 256) as u8,
-        underrun: policy,
+        underrun: policy_from(get_u64(image, SETUP_AT + 32)),
         silence_byte: (get_u64(image, SETUP_AT + 40) % 256) as u8,
         base: get_u64(image, SETUP_AT + 48) as usize,
         tagged: get_u64(image, SETUP_AT + 56) == 1,
@@ -71,6 +66,7 @@ fn read_setup(image: &[u8]) -> Setup
 }
 
 // Internal: the hand.
+#[tactic(auto, unfolding(crate::specs::Reading::hand_in))]
 fn read_hand(image: &[u8]) -> Hand
     requires { image_size 0 ≤ length image.now }
     ensures { result ≡ hand_in image.now }
@@ -83,6 +79,7 @@ fn read_hand(image: &[u8]) -> Hand
 }
 
 // Internal: started and armed.
+#[tactic(auto, unfolding(crate::specs::Reading::flags_in))]
 fn read_flags(image: &[u8]) -> Flags
     requires { image_size 0 ≤ length image.now }
     ensures { result ≡ flags_in image.now }
@@ -111,22 +108,15 @@ fn read_stats(image: &[u8], n: usize) -> IsoStats
     }
 }
 
-// Internal: an empty queue's places.
-fn no_places() -> [u8; 256]
-    ensures { result ≡ replicate 256 0 }
-{
-    [0; 256]
-}
-
 // Internal: the queue's places.
 fn read_queue(image: &[u8], n: usize) -> [u8; 256]
     requires { (n ≤ 256) × (image_size n ≤ length image.now) }
     ensures { result ≡ queue_in n image.now }
 {
     let at = queue_at(n);
-    let mut free = no_places();
-    for i in 0..n {
-        free[i] = (get_u32(image, at + 4 * i) % 256) as u8;
+    let mut free = [0; 256];
+    for (i, place) in free[..n].iter_mut().enumerate() {
+        *place = (get_u32(image, at + 4 * i) % 256) as u8;
     }
     free
 }
@@ -136,8 +126,7 @@ fn read_used(image: &[u8], n: usize) -> usize
     requires { image_size 0 ≤ length image.now }
     ensures { result ≡ Nat.min (field 4 4 image.now) n }
 {
-    let used = get_u32(image, 4) as usize;
-    if used < n { used } else { n }
+    (get_u32(image, 4) as usize).min(n)
 }
 
 // Internal: slots, queue with so many used places, and out count.
@@ -145,9 +134,7 @@ fn read_ring(image: &[u8], n: usize, used: usize) -> Ring
     requires { (n ≤ 256) × (image_size n ≤ length image.now) × (used ≡ Nat.min (field 4 4 image.now) n) }
     ensures { result ≡ ring_in n image.now }
 {
-    let free = read_queue(image, n);
-    let end = queue_at(n);
-    from_codes(&image[STATES_AT..end], free, used)
+    from_codes(&image[STATES_AT..queue_at(n)], read_queue(image, n), used)
 }
 
 // Internal: whether each of n states is 0 to 3.
@@ -156,12 +143,9 @@ fn states_match(image: &[u8], n: usize) -> bool
     ensures { result ≡ begins (words 1 (table (λ i. state_number (state_from (get_or image.now (states_at + i) 0))) n))
         (drop states_at image.now) }
 {
-    for i in 0..n {
-        if 3 < image[STATES_AT + i] {
-            return false;
-        }
-    }
-    true
+    image[STATES_AT..STATES_AT + n]
+        .iter()
+        .all(|&code| code <= 3)
 }
 
 // Internal: whether each used place of the queue is a byte and each other one is zero.
@@ -171,13 +155,10 @@ fn queue_matches(image: &[u8], n: usize, used: usize) -> bool
         (drop (queue_at n) image.now) }
 {
     let at = queue_at(n);
-    for i in 0..n {
+    (0..n).all(|i| {
         let number = get_u32(image, at + 4 * i);
-        if number != place((number % 256) as u8, i < used) {
-            return false;
-        }
-    }
-    true
+        number == place((number % 256) as u8, i < used)
+    })
 }
 
 // Internal: whether header and setup have these numbers.
@@ -187,12 +168,8 @@ fn head_matches(image: &[u8], setup: Setup, used: usize, hand: Hand, flags: Flag
         && begins (words 8 (setup_for setup hand flags.started flags.armed))
         (drop setup_at image.now)) }
 {
-    let header = header_numbers(setup.slots, used);
-    if !has_words(image, 0, 4, &header) {
-        return false;
-    }
-    let numbers = setup_numbers(setup, hand, flags);
-    has_words(image, SETUP_AT, 8, &numbers)
+    has_words(image, 0, 4, &header_numbers(setup.slots, used))
+        && has_words(image, SETUP_AT, 8, &setup_numbers(setup, hand, flags))
 }
 
 // Internal: reads the parts and compares each with the image of what was read. Counters of any bytes are an image's.
@@ -204,18 +181,31 @@ fn read_parts(image: &[u8], n: usize) -> Stream
     let hand = read_hand(image);
     let flags = read_flags(image);
     let used = read_used(image, n);
-    if !head_matches(image, setup, used, hand, flags) {
-        return no_stream();
-    }
-    if !states_match(image, n) {
-        return no_stream();
-    }
-    if !queue_matches(image, n, used) {
+    if !head_matches(image, setup, used, hand, flags)
+        || !states_match(image, n)
+        || !queue_matches(image, n, used)
+    {
         return no_stream();
     }
     let ring = read_ring(image, n, used);
     let stats = read_stats(image, n);
     Stream::new(setup, ring, hand, flags, stats)
+}
+
+// Internal: how many slots the setup has, if there are at most 256 and the bytes are enough for the image of so many.
+fn slots_in(image: &[u8]) -> Option<usize>
+    ensures { MatchOption result ((leb (setup_in image.now).slots 256 && matches image.now) ≡ false)
+        (λ n. Roomy n image.now) }
+{
+    if image.len() < LEAST_SIZE {
+        return None;
+    }
+    let n = get_u64(image, SETUP_AT) as usize;
+    if n <= 256 && size(n) <= image.len() {
+        Some(n)
+    } else {
+        None
+    }
 }
 
 // Internal: the record that stands in the bytes, where they begin with its image; else one that 8 refuses. Whether the
@@ -224,15 +214,8 @@ pub fn read_image(image: &[u8]) -> Stream
     ensures { result ≡ cond (leb (setup_in image.now).slots 256 && matches image.now)
         (record_in image.now) no_stream }
 {
-    if image.len() < LEAST_SIZE {
+    let Some(n) = slots_in(image) else {
         return no_stream();
-    }
-    let n = get_u64(image, SETUP_AT) as usize;
-    if 256 < n {
-        return no_stream();
-    }
-    if image.len() < size(n) {
-        return no_stream();
-    }
+    };
     read_parts(image, n)
 }

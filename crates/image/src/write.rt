@@ -26,34 +26,30 @@ fn write_head(setup: Setup, used: usize, hand: Hand, flags: Flags, image: &mut [
         ≡ store setup_at (words 8 (setup_for setup hand flags.started flags.armed))
         (store 0 (words 4 (header_for setup.slots used)) image.old) }
 {
-    let header = header_numbers(setup.slots, used);
-    put_words(image, 0, 4, &header);
-    let numbers = setup_numbers(setup, hand, flags);
-    put_words(image, SETUP_AT, 8, &numbers)
+    put_words(image, 0, 4, &header_numbers(setup.slots, used));
+    put_words(image, SETUP_AT, 8, &setup_numbers(setup, hand, flags))
 }
 
-// Internal: the queue's n places, of which so many are used.
-fn put_queue(image: &mut [u8], at: usize, n: usize, free: [u8; 256], used: usize)
-    requires { (n ≤ 256) × (at + 4 * n ≤ length image.old) }
-    ensures { image.new ≡ store at (words 4 (places n (take used free))) image.old }
+// Internal: these places of the queue, of which so many are used.
+fn put_queue(image: &mut [u8], at: usize, free: &[u8], used: usize)
+    requires { (length free.now ≤ 256) × (at + 4 * length free.now ≤ length image.old) }
+    ensures { image.new ≡ store at (words 4 (places (length free.now) (take used free.now))) image.old }
 {
-    for i in 0..n {
-        let slot = free[i];
+    for (i, &slot) in free.iter().enumerate() {
         put_u32(image, at + 4 * i, place(slot, i < used));
     }
 }
 
 // Internal: states and queue of n slots.
-fn write_ring(ring: Ring, n: usize, image: &mut [u8])
+fn write_ring(ring: &Ring, n: usize, image: &mut [u8])
     requires { (n ≤ 256) × (image_size n ≤ length image.old) }
     ensures { image.new
-        ≡ store (queue_at n) (words 4 (places n (queue_of ring)))
-        (store states_at (table (λ i. state_number (state_of ring i)) n) image.old) }
+        ≡ store (queue_at n) (words 4 (places n (queue_of ring.now)))
+        (store states_at (table (λ i. state_number (state_of ring.now i)) n) image.old) }
 {
     let end = queue_at(n);
-    put_states(ring, &mut image[STATES_AT..end]);
-    let free = ring.free;
-    put_queue(image, end, n, free, ring.free_len)
+    put_states(*ring, &mut image[STATES_AT..end]);
+    put_queue(image, end, &ring.free[..n], ring.free_len)
 }
 
 // Internal: stores the image of a sound record.
@@ -61,14 +57,8 @@ pub fn write_image(s: Stream, image: &mut [u8])
     requires { (sound s ≡ true) × (image_size s.setup.slots ≤ length image.old) }
     ensures { image.new ≡ store 0 (image_bytes s) image.old }
 {
-    let setup = s.setup;
-    let ring = s.ring;
-    let hand = s.hand;
-    let flags = s.flags;
-    let stats = s.stats;
-    let n = setup.slots;
-    write_head(setup, ring.free_len, hand, flags, image);
-    write_ring(ring, n, image);
-    let counters = counter_numbers(stats);
-    put_words(image, counters_at(n), 8, &counters)
+    let n = s.setup.slots;
+    write_head(s.setup, s.ring.free_len, s.hand, s.flags, image);
+    write_ring(&s.ring, n, image);
+    put_words(image, counters_at(n), 8, &counter_numbers(s.stats))
 }

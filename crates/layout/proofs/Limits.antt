@@ -1,5 +1,6 @@
 -- What opening's limits leave, as named facts, and back.
 -- Assumes nothing.
+use Rattle.std.specs.Prelude.{Ok}
 use Prim.Native.Nat.{◌+◌, ◌*◌, ◌≤◌}
 use mathlib.Core.Path.{◌≡◌, refl, sym, ◌∙◌, ap}
 use mathlib.Core.Bool.{◌||◌}
@@ -9,7 +10,6 @@ use lib.Dec.{ltb}
 use borrow.Author.Tests.{ltb-false, le-ltb}
 use Rattle.layout.specs.declared.RingLayout.{RingLayout}
 use Rattle.layout.specs.declared.Setup.{Setup}
-use Rattle.layout.specs.declared.Laid.TheVariants.{Layout}
 use Rattle.layout.specs.Tests.{first}
 use Rattle.layout.specs.Layout.{largest, sizes, total, layout_of, bad_frame, laid, laid_out}
 use Rattle.layout.specs.Opening.{layout_for, total_of, limits, Limited}
@@ -52,7 +52,7 @@ unfolding layout_for layout_of total_of
 layout-total s l e = ap (λ (k : RingLayout). k.total_bytes) e
 
 -- Within the limits refusal 4 can't arise: RingLayout::new gives the layout.
-pub limited-laid : (s : Setup) → Limited s → laid_out s.slots s.packets_per_urb s.packet_bytes s.frame_bytes ≡ Layout (layout_for s)
+pub limited-laid : (s : Setup) → Limited s → laid_out s.slots s.packets_per_urb s.packet_bytes s.frame_bytes ≡ Ok (layout_for s)
 unfolding laid_out layout_for first laid
 limited-laid s l =
     rw (

@@ -1,5 +1,6 @@
 -- Laws of a list of tests: a list is gone through front to back, and a run of tests answers with the first refusal or passes.
 -- Assumes nothing.
+use Rattle.std.specs.Prelude.{Result, Ok, Err}
 use mathlib.Core.Path.{◌≡◌, refl}
 use Prim.Native.Nat.{ℕ}
 use mathlib.Core.Bool.{Bool, true, false, not, ◌||◌}
@@ -9,8 +10,6 @@ use native.Mathlib.Omega.{arith}
 use lib.Dec.{ltb, eqb}
 use borrow.Author.Tests.{ltb-false, eqb-false, le-ltb, ne_eqb}
 use Rattle.error.specs.declared.Error.{Error}
-use Rattle.layout.specs.declared.Tested.{Tested}
-use Rattle.layout.specs.declared.Tested.TheVariants.{Passed, Refused}
 use Rattle.layout.specs.Tests.{Test, first, tested, passed}
 use Rattle.layout.specs.Layout.{sizes, Sized}
 
@@ -29,12 +28,12 @@ first-late ((true, e') ∷ ts) us h = cc
 first-late ((false, e') ∷ ts) us h = first-late ts us h
 
 -- What an answer to a run of tests tells of the run.
-pub passed_none : (t : Tested) (o : Option Error) → t ≡ tested o → t ≡ Passed → o ≡ none
+pub passed_none : (t : Result (Unit {0}) Error) (o : Option Error) → t ≡ tested o → t ≡ (Ok tt) → o ≡ none
 unfolding tested
 passed_none t none h q = refl
 passed_none t (some e) h q = cc
 
-pub refused-some : (t : Tested) (o : Option Error) (e : Error) → t ≡ tested o → t ≡ Refused e → o ≡ some e
+pub refused-some : (t : Result (Unit {0}) Error) (o : Option Error) (e : Error) → t ≡ tested o → t ≡ Err e → o ≡ some e
 unfolding tested
 refused-some t none e h q = cc
 refused-some t (some e') e h q = cc

@@ -1,12 +1,10 @@
 -- The paper's section Layout, over unbounded numbers: n slots, p packets per URB, b bytes per packet, and (request 2026-04) frames of f
 -- bytes.
-use Rattle.std.specs.Prelude.{ℕ, ◌+◌, ◌-◌, ◌*◌, ◌/◌, ◌^◌, ◌≤◌, ◌<◌, Bool, false, ◌||◌, List, [], ◌∷◌, ◌++◌, ltb, eqb}
+use Rattle.std.specs.Prelude.{ℕ, ◌+◌, ◌-◌, ◌*◌, ◌/◌, ◌^◌, ◌≤◌, ◌<◌, Bool, false, ◌||◌, List, [], ◌∷◌, ◌++◌, ltb, eqb, Result, Ok, Err}
 use Rattle.std.proofs.Math.Option.{Option, none, some}
 use Rattle.error.specs.declared.Error.{Error}
 use Rattle.error.specs.declared.Error.TheVariants.{TooFewSlots, ZeroSize, TooManyPackets, LayoutOverflow, FrameSize}
 use Rattle.layout.specs.declared.RingLayout.{RingLayout}
-use Rattle.layout.specs.declared.Laid.{Laid}
-use Rattle.layout.specs.declared.Laid.TheVariants.{Layout, Refused}
 use Rattle.layout.specs.Tests.{Test, first}
 
 -- The largest usize.
@@ -89,12 +87,12 @@ unfoldable pub bad_frame : ℕ → ℕ → Bool
 bad_frame b f = eqb f 0 || ltb b f
 
 -- The layout, or its refusal.
-unfoldable pub laid : Option Error → RingLayout → Laid
-laid none l = Layout l
-laid (some e) l = Refused e
+unfoldable pub laid : Option Error → RingLayout → Result RingLayout Error
+laid none l = Ok l
+laid (some e) l = Err e
 
 -- What RingLayout::new answers: refused in the order 1, 2, 3, 4, 33.
-unfoldable pub laid_out : ℕ → ℕ → ℕ → ℕ → Laid
+unfoldable pub laid_out : ℕ → ℕ → ℕ → ℕ → Result RingLayout Error
 laid_out n p b f =
     laid (first (sizes n p b ++ (overflowing n p b, LayoutOverflow) ∷ (bad_frame b f, FrameSize) ∷ [])) (layout_of n p b f)
 

@@ -1,9 +1,7 @@
 -- Refusals as a list of tests in order: the first test that holds refuses.
-use Rattle.std.specs.Prelude.{Bool, true, false, cond, List, [], ◌∷◌}
+use Rattle.std.specs.Prelude.{Bool, true, false, cond, List, [], ◌∷◌, Result, Ok, Err}
 use Rattle.std.proofs.Math.Option.{Option, none, some}
 use Rattle.error.specs.declared.Error.{Error}
-use Rattle.layout.specs.declared.Tested.{Tested}
-use Rattle.layout.specs.declared.Tested.TheVariants.{Passed, Refused}
 
 -- A test, and the refusal that it gives where it holds.
 abbrev pub Test : Type 0
@@ -15,9 +13,9 @@ first [] = none
 first (t ∷ ts) = cond t.0 (some t.1) (first ts)
 
 -- The answer to a run of tests.
-unfoldable pub tested : Option Error → Tested
-tested none = Passed
-tested (some e) = Refused e
+unfoldable pub tested : Option Error → Result (Unit {0}) Error
+tested none = (Ok tt)
+tested (some e) = Err e
 
 -- No test held.
 unfoldable pub passed : Option Error → Bool

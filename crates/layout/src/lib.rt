@@ -39,19 +39,6 @@ pub struct RingLayout {
     pub slot_capacity: usize,
 }
 
-#[derive(Clone, Copy)]
-pub enum Laid {
-    Layout(RingLayout),
-    Refused(Error),
-}
-
-// Whether a run of tests let the values pass.
-#[derive(Clone, Copy)]
-pub enum Tested {
-    Passed,
-    Refused(Error),
-}
-
 // Internal: v raised to a multiple of a.
 #[tactic(auto, unfolding(crate::specs::Layout::raised))]
 fn align_up(v: usize, a: usize) -> usize
@@ -98,19 +85,19 @@ fn bad_frame(packet_bytes: usize, frame_bytes: usize) -> bool
 
 // Refusals 1, 2 and 3.
 #[tactic(auto, unfolding(crate::specs::Layout::sizes, crate::specs::Tests::first, crate::specs::Tests::tested))]
-fn test_sizes(slots: usize, packets_per_urb: usize, packet_bytes: usize) -> Tested
+fn test_sizes(slots: usize, packets_per_urb: usize, packet_bytes: usize) -> Result<(), Error>
     ensures { result ≡ tested (first (sizes slots packets_per_urb packet_bytes)) }
 {
     if slots < 2 {
-        return Tested::Refused(Error::TooFewSlots);
+        return Err(Error::TooFewSlots);
     }
     if packets_per_urb == 0 || packet_bytes == 0 {
-        return Tested::Refused(Error::ZeroSize);
+        return Err(Error::ZeroSize);
     }
     if packets_per_urb > sys::MAX_ISO_PACKETS_PER_URB {
-        return Tested::Refused(Error::TooManyPackets);
+        return Err(Error::TooManyPackets);
     }
-    Tested::Passed
+    Ok(())
 }
 
 // Internal: whether a product, sum or raising is above usize::MAX. Since the data stride is a multiple of 64, the
@@ -167,21 +154,17 @@ impl RingLayout {
         packets_per_urb: usize,
         packet_bytes: usize,
         frame_bytes: usize,
-    ) -> Laid
+    ) -> Result<RingLayout, Error>
         ensures { result ≡ laid_out slots packets_per_urb packet_bytes frame_bytes }
     {
-        match test_sizes(slots, packets_per_urb, packet_bytes) {
-            Tested::Refused(e) => Laid::Refused(e),
-            Tested::Passed => {
-                if overflows(slots, packets_per_urb, packet_bytes) {
-                    return Laid::Refused(Error::LayoutOverflow);
-                }
-                if bad_frame(packet_bytes, frame_bytes) {
-                    return Laid::Refused(Error::FrameSize);
-                }
-                Laid::Layout(RingLayout::of(slots, packets_per_urb, packet_bytes, frame_bytes))
-            }
+        test_sizes(slots, packets_per_urb, packet_bytes)?;
+        if overflows(slots, packets_per_urb, packet_bytes) {
+            return Err(Error::LayoutOverflow);
         }
+        if bad_frame(packet_bytes, frame_bytes) {
+            return Err(Error::FrameSize);
+        }
+        Ok(RingLayout::of(slots, packets_per_urb, packet_bytes, frame_bytes))
     }
 }
 
@@ -249,21 +232,17 @@ fn bad_base(tagged: bool, base: usize, bytes: usize) -> bool
 
 impl Setup {
     // Refusals 1, 2, 3, 5 and 33.
-    pub fn test_limits(self) -> Tested
+    pub fn test_limits(self) -> Result<(), Error>
         ensures { result ≡ tested (first (limits self)) }
     {
-        match test_sizes(self.slots, self.packets_per_urb, self.packet_bytes) {
-            Tested::Refused(e) => Tested::Refused(e),
-            Tested::Passed => {
-                if self.slots > MAX_SLOTS || self.packet_bytes > MAX_PACKET_BYTES {
-                    return Tested::Refused(Error::TooLarge);
-                }
-                if bad_frame(self.packet_bytes, self.frame_bytes) {
-                    return Tested::Refused(Error::FrameSize);
-                }
-                Tested::Passed
-            }
+        test_sizes(self.slots, self.packets_per_urb, self.packet_bytes)?;
+        if self.slots > MAX_SLOTS || self.packet_bytes > MAX_PACKET_BYTES {
+            return Err(Error::TooLarge);
         }
+        if bad_frame(self.packet_bytes, self.frame_bytes) {
+            return Err(Error::FrameSize);
+        }
+        Ok(())
     }
 
     // Internal: the layout of values within the limits.
@@ -284,8 +263,8 @@ impl Setup {
         ensures { result ≡ admissible self }
     {
         match self.test_limits() {
-            Tested::Refused(_) => false,
-            Tested::Passed => {
+            Err(_) => false,
+            Ok(()) => {
                 let layout = self.layout_of();
                 !bad_base(self.tagged, self.base, layout.total_bytes)
             }

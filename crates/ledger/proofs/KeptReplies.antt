@@ -1,5 +1,6 @@
 -- submitted and reaped keep a ledger valid.
 -- Assumes nothing.
+use Rattle.std.specs.Prelude.{Option, Some, None, Result, Ok, Err}
 use mathlib.Core.Path.{◌≡◌, refl, sym, ap, subst, ◌∙◌}
 use mathlib.Core.Bool.{true}
 use mathlib.Core.List.{List}
@@ -8,11 +9,8 @@ use native.Mathlib.Decide.{dec_lt}
 use native.Mathlib.Omega.{arith}
 use lib.ListN.{get_or-eq_default}
 use Rattle.layout.specs.declared.Setup.{Setup}
-use Rattle.ring.specs.declared.Found.{Found}
 use Rattle.ring.specs.declared.Hand.{Hand}
 use Rattle.ring.specs.Slots.{holds}
-use Rattle.stream.specs.declared.Reaping.{Reaping}
-use Rattle.stream.specs.declared.Submission.{Submission}
 use Rattle.ledger.specs.Ledger.{Ledger, Mark, home, out, discarded, with_hand, with_queue, with_marks, with_flags, with_totals, marked, mark_of, returned}
 use Rattle.ledger.specs.Step.{refused, when_idle, put_back}
 use Rattle.ledger.specs.Submitted.{accepted_ledger, submit_failed, sent, chained, silent, by_sending, submitted_hand, submitted}
@@ -42,18 +40,18 @@ accepted-idle : (s : Setup) (i : ℕ) (l : Ledger) (block : List ℕ) → (accep
 unfolding accepted_ledger with_hand
 accepted-idle s i l block = refl
 
-sent-valid : (n : ℕ) (s : Setup) (r : Submission) (i : ℕ) (l : Ledger) (block : List ℕ) → Valid n (with_hand Hand.Idle (returned i l)) → Valid n (with_hand Hand.Idle (marked i out l)) → Valid n (sent r i s l block).ledger
+sent-valid : (n : ℕ) (s : Setup) (r : Result (Unit {0}) ℕ) (i : ℕ) (l : Ledger) (block : List ℕ) → Valid n (with_hand Hand.Idle (returned i l)) → Valid n (with_hand Hand.Idle (marked i out l)) → Valid n (sent r i s l block).ledger
 unfolding sent submit_failed put_back
-sent-valid n s Submission.Accepted i l block v w = accepted-valid n s i l block w
-sent-valid n s (Submission.Errno e) i l block v w = v
+sent-valid n s (Ok tt) i l block v w = accepted-valid n s i l block w
+sent-valid n s (Err e) i l block v w = v
 
-silent-valid : (n : ℕ) (s : Setup) (r : Submission) (i left : ℕ) (l : Ledger) (block : List ℕ) → left ≤ 1 → Valid n (with_hand Hand.Idle (returned i l)) → Valid n (with_hand Hand.Idle (marked i out l)) → Valid n (silent r i left s l block).ledger
+silent-valid : (n : ℕ) (s : Setup) (r : Result (Unit {0}) ℕ) (i left : ℕ) (l : Ledger) (block : List ℕ) → left ≤ 1 → Valid n (with_hand Hand.Idle (returned i l)) → Valid n (with_hand Hand.Idle (marked i out l)) → Valid n (silent r i left s l block).ledger
 unfolding silent submit_failed put_back
-silent-valid n s Submission.Accepted i left l block b v w =
+silent-valid n s (Ok tt) i left l block b v w =
     chained-valid n s left (accepted_ledger s i l block) block (accepted-valid n s i l block w) (accepted-idle s i l block) b
-silent-valid n s (Submission.Errno e) i left l block b v w = v
+silent-valid n s (Err e) i left l block b v w = v
 
-sending-valid : (n : ℕ) (s : Setup) (r : Submission) (l : Ledger) (block : List ℕ) → Valid n l → (h : Hand) → l.hand ≡ h → Valid n (by_sending r h s l block).ledger
+sending-valid : (n : ℕ) (s : Setup) (r : Result (Unit {0}) ℕ) (l : Ledger) (block : List ℕ) → Valid n l → (h : Hand) → l.hand ≡ h → Valid n (by_sending r h s l block).ledger
 unfolding by_sending refused holds
 sending-valid n s r l block v Hand.Idle e = v
 sending-valid n s r l block v (Hand.Held i) e = v
@@ -64,7 +62,7 @@ sending-valid n s r l block v (Hand.Silent i left) e =
     let w = slot_of n l v (Hand.Silent i left) i e (λ j. refl) (in-silent n l v i left e).0 in
     silent-valid n s r i left l block (in-silent n l v i left e).1 w.0 w.1
 
-pub submitted-valid : (n : ℕ) (r : Submission) (s : Setup) (l : Ledger) (block : List ℕ) → Valid n l → Valid n (submitted r s l block).ledger
+pub submitted-valid : (n : ℕ) (r : Result (Unit {0}) ℕ) (s : Setup) (l : Ledger) (block : List ℕ) → Valid n l → Valid n (submitted r s l block).ledger
 unfolding submitted submitted_hand
 submitted-valid n r s l block v = block-valid n (submitted_hand r) s l block v (sending-valid n s r l block v l.hand refl)
 
@@ -90,17 +88,17 @@ noticed-valid n s l v e i home p block = v
 noticed-valid n s l v e i out p block = totalled n _ _ (notice-back n l v e i (λ q. out≢home (sym p ∙ q)))
 noticed-valid n s l v e i discarded p block = notice-back n l v e i (λ q. discarded≢home (sym p ∙ q))
 
-address-valid : (n : ℕ) (s : Setup) (l : Ledger) → Valid n l → l.hand ≡ Hand.Idle → (f : Found) (block : List ℕ) → Valid n (by_address s f l block).ledger
+address-valid : (n : ℕ) (s : Setup) (l : Ledger) → Valid n l → l.hand ≡ Hand.Idle → (f : Option ℕ) (block : List ℕ) → Valid n (by_address s f l block).ledger
 unfolding by_address
-address-valid n s l v e Found.Nothing block = v
-address-valid n s l v e (Found.Slot i) block = noticed-valid n s l v e i (mark_of l i) refl block
+address-valid n s l v e None block = v
+address-valid n s l v e (Some i) block = noticed-valid n s l v e i (mark_of l i) refl block
 
-reaping-valid : (n : ℕ) (s : Setup) (l : Ledger) → Valid n l → l.hand ≡ Hand.Idle → (r : Reaping) (block : List ℕ) → Valid n (reaped_idle r s l block).ledger
+reaping-valid : (n : ℕ) (s : Setup) (l : Ledger) → Valid n l → l.hand ≡ Hand.Idle → (r : Result ℕ ℕ) (block : List ℕ) → Valid n (reaped_idle r s l block).ledger
 unfolding reaped_idle by_errno
-reaping-valid n s l v e (Reaping.Errno x) block = v
-reaping-valid n s l v e (Reaping.Address a) block = address-valid n s l v e (slot_of_urb s a block) block
+reaping-valid n s l v e (Err x) block = v
+reaping-valid n s l v e (Ok a) block = address-valid n s l v e (slot_of_urb s a block) block
 
-pub reaped-valid : (n : ℕ) (r : Reaping) (s : Setup) (l : Ledger) (block : List ℕ) → Valid n l → Valid n (reaped r s l block).ledger
+pub reaped-valid : (n : ℕ) (r : Result ℕ ℕ) (s : Setup) (l : Ledger) (block : List ℕ) → Valid n l → Valid n (reaped r s l block).ledger
 unfolding reaped
 reaped-valid n r s l block v =
     block-valid n (when_idle (reaped_idle r)) s l block v

@@ -1,5 +1,6 @@
 -- No rule answers 8: what a rule can end with is looked at outcome by outcome, and its tests only choose between outcomes.
 -- Assumes nothing.
+use Rattle.std.specs.Prelude.{Option, Some, None, Result, Ok, Err}
 use Prim.Native.Nat.{ℕ, zero, suc}
 use mathlib.Core.Path.{◌≡◌, refl}
 use mathlib.Core.Bool.{Bool, true, false, cond, not, ◌||◌}
@@ -14,11 +15,8 @@ use Rattle.layout.specs.declared.Setup.{Setup}
 use Rattle.layout.specs.declared.Underrun.{Underrun}
 use Rattle.layout.specs.Layout.{any_above}
 use Rattle.layout.specs.Opening.{total_of, capacity_of}
-use Rattle.ring.specs.declared.Found.{Found}
 use Rattle.ring.specs.declared.Hand.{Hand}
 use Rattle.stream.specs.declared.Answer.{Answer}
-use Rattle.stream.specs.declared.Reaping.{Reaping}
-use Rattle.stream.specs.declared.Submission.{Submission}
 use Rattle.stream.specs.Numbers.{numbers_of}
 use Rattle.ledger.specs.Ledger.{Ledger, Mark, home, out, discarded, mark_of, outs}
 use Rattle.ledger.specs.Notice.{slot_of_urb, completion_of}
@@ -152,24 +150,24 @@ unfolding chained
 chained-ends s zero l block = take_ends l.queue l block
 chained-ends s (suc more) l block = silence-ends s more l.queue l block
 
-sent-ends : (r : Submission) (i : ℕ) (s : Setup) (l : Ledger) (block : List ℕ) → Ends (sent r i s l block)
+sent-ends : (r : Result (Unit {0}) ℕ) (i : ℕ) (s : Setup) (l : Ledger) (block : List ℕ) → Ends (sent r i s l block)
 unfolding sent numbers_of
-sent-ends Submission.Accepted i s l block = refl
-sent-ends (Submission.Errno e) i s l block = failed_ends s i e l block
+sent-ends (Ok tt) i s l block = refl
+sent-ends (Err e) i s l block = failed_ends s i e l block
 
-silent-ends : (r : Submission) (i left : ℕ) (s : Setup) (l : Ledger) (block : List ℕ) → Ends (silent r i left s l block)
+silent-ends : (r : Result (Unit {0}) ℕ) (i left : ℕ) (s : Setup) (l : Ledger) (block : List ℕ) → Ends (silent r i left s l block)
 unfolding silent
-silent-ends Submission.Accepted i left s l block = chained-ends s left (accepted_ledger s i l block) block
-silent-ends (Submission.Errno e) i left s l block = failed_ends s i e l block
+silent-ends (Ok tt) i left s l block = chained-ends s left (accepted_ledger s i l block) block
+silent-ends (Err e) i left s l block = failed_ends s i e l block
 
-sending-ends : (r : Submission) (h : Hand) (s : Setup) (l : Ledger) (block : List ℕ) → Ends (by_sending r h s l block)
+sending-ends : (r : Result (Unit {0}) ℕ) (h : Hand) (s : Setup) (l : Ledger) (block : List ℕ) → Ends (by_sending r h s l block)
 unfolding by_sending refused numbers_of
 sending-ends r Hand.Idle s l block = refl
 sending-ends r (Hand.Held i) s l block = refl
 sending-ends r (Hand.Sending i) s l block = sent-ends r i s l block
 sending-ends r (Hand.Silent i left) s l block = silent-ends r i left s l block
 
-submitted-ends : (r : Submission) (s : Setup) (l : Ledger) (block : List ℕ) → Ends (Submitted.submitted r s l block)
+submitted-ends : (r : Result (Unit {0}) ℕ) (s : Setup) (l : Ledger) (block : List ℕ) → Ends (Submitted.submitted r s l block)
 unfolding Submitted.submitted submitted_hand
 submitted-ends r s l block = block-ends s l block (submitted_hand r) (sending-ends r l.hand s l block)
 
@@ -182,17 +180,17 @@ noticed-ends s out i l block =
     either Other (is_gone c.status) (Answer.Refused Error.Disconnected) (Answer.Completed c) refl refl
 noticed-ends s discarded i l block = refl
 
-address-ends : (s : Setup) (f : Found) (l : Ledger) (block : List ℕ) → Ends (by_address s f l block)
+address-ends : (s : Setup) (f : Option ℕ) (l : Ledger) (block : List ℕ) → Ends (by_address s f l block)
 unfolding by_address numbers_of
-address-ends s Found.Nothing l block = refl
-address-ends s (Found.Slot i) l block = noticed-ends s (mark_of l i) i l block
+address-ends s None l block = refl
+address-ends s (Some i) l block = noticed-ends s (mark_of l i) i l block
 
-reaping-ends : (r : Reaping) (s : Setup) (l : Ledger) (block : List ℕ) → Ends (reaped_idle r s l block)
+reaping-ends : (r : Result ℕ ℕ) (s : Setup) (l : Ledger) (block : List ℕ) → Ends (reaped_idle r s l block)
 unfolding reaped_idle by_errno numbers_of
-reaping-ends (Reaping.Errno e) s l block = either Other (eqb e 11) Answer.Nothing _ refl (errno-other e ErrnoContext.Other)
-reaping-ends (Reaping.Address a) s l block = address-ends s (slot_of_urb s a block) l block
+reaping-ends (Err e) s l block = either Other (eqb e 11) Answer.Nothing _ refl (errno-other e ErrnoContext.Other)
+reaping-ends (Ok a) s l block = address-ends s (slot_of_urb s a block) l block
 
-reaped-ends : (r : Reaping) (s : Setup) (l : Ledger) (block : List ℕ) → Ends (Reaped.reaped r s l block)
+reaped-ends : (r : Result ℕ ℕ) (s : Setup) (l : Ledger) (block : List ℕ) → Ends (Reaped.reaped r s l block)
 unfolding Reaped.reaped
 reaped-ends r s l block = block-ends s l block (when_idle (reaped_idle r)) (idle-ends s l block (reaped_idle r) (reaping-ends r s l block))
 

@@ -1,10 +1,8 @@
 -- The ten calls: what each is given, its rule, and what it does to a ledger and to a record. The contracts of the calls and demand 3 cite
 -- this one table.
-use Rattle.std.specs.Prelude.{ℕ, List, []}
+use Rattle.std.specs.Prelude.{ℕ, List, [], Result}
 use Rattle.layout.specs.declared.Setup.{Setup}
-use Rattle.stream.specs.declared.Reaping.{Reaping}
 use Rattle.stream.specs.declared.Stream.{Stream}
-use Rattle.stream.specs.declared.Submission.{Submission}
 use Rattle.ledger.specs.Ledger.{Ledger}
 use Rattle.ledger.specs.Step.{Next, Rule}
 use Rattle.ledger.specs.Record.{Outcome, call}
@@ -20,8 +18,8 @@ pub data Call : Type 0 where
   commit : (bytes : ℕ) (block : List ℕ) → Call
   commit_full : (block : List ℕ) → Call
   commit_packets : (lengths : List ℕ) (block : List ℕ) → Call
-  submitted : (reply : Submission) (block : List ℕ) → Call
-  reaped : (reply : Reaping) (block : List ℕ) → Call
+  submitted : (reply : Result (Unit {0}) ℕ) (block : List ℕ) → Call
+  reaped : (reply : Result ℕ ℕ) (block : List ℕ) → Call
   give_back : Call
   start : Call
   stop : (list : List ℕ) → Call

@@ -1,5 +1,5 @@
 -- What the calls read from the block: a slot's buffer length, the slot that an address names, and the figures of a completion.
-use Rattle.std.specs.Prelude.{ℕ, zero, suc, ◌+◌, ◌-◌, ◌*◌, ◌/◌, ◌%◌, Bool, cond, not, List, [], ◌∷◌, ltb, leb, eqb}
+use Rattle.std.specs.Prelude.{ℕ, zero, suc, ◌+◌, ◌-◌, ◌*◌, ◌/◌, ◌%◌, Bool, cond, not, List, [], ◌∷◌, ltb, leb, eqb, Option, Some, None}
 use Rattle.sys.specs.Signed.{non_negative}
 use Rattle.sys.specs.Header.{header_at}
 use Rattle.sys.specs.Descriptor.{desc_size, desc_at}
@@ -7,7 +7,6 @@ use Rattle.sys.specs.declared.descriptor.IsoPacketDesc.{IsoPacketDesc}
 use Rattle.layout.specs.declared.Setup.{Setup}
 use Rattle.layout.specs.Opening.{masked_of, layout_for}
 use Rattle.layout.specs.Places.{places_of}
-use Rattle.ring.specs.declared.Found.{Found}
 use Rattle.stream.specs.declared.Completion.{Completion}
 
 -- The buffer length in the block, or 0 where it is negative.
@@ -20,20 +19,20 @@ cookie_of s i block = (header_at (places_of s i).header block).usercontext
 
 -- An offset from the base names a slot unless it is at or past n × stride, not a multiple of the stride, or the cookie there isn't that
 -- index.
-unfoldable pub slot_at : Setup → ℕ → List ℕ → Found
+unfoldable pub slot_at : Setup → ℕ → List ℕ → Option ℕ
 slot_at s offset block =
     let stride = (layout_for s).slot_stride in
     let i = offset / stride in
-    cond (leb (s.slots * stride) offset) Found.Nothing
-    (cond (not (eqb (offset % stride) 0)) Found.Nothing
-    (cond (eqb (cookie_of s i block) i) (Found.Slot i) Found.Nothing))
+    cond (leb (s.slots * stride) offset) None
+    (cond (not (eqb (offset % stride) 0)) None
+    (cond (eqb (cookie_of s i block) i) (Some i) None))
 
 -- The slot that an address names: offset from the base, both masked; none below the base.
-unfoldable pub slot_of_urb : Setup → ℕ → List ℕ → Found
+unfoldable pub slot_of_urb : Setup → ℕ → List ℕ → Option ℕ
 slot_of_urb s address block =
     let base = masked_of s.tagged s.base in
     let at = masked_of s.tagged address in
-    cond (ltb at base) Found.Nothing (slot_at s (at - base) block)
+    cond (ltb at base) None (slot_at s (at - base) block)
 
 -- The p descriptors that stand at an offset.
 unfoldable pub packets_at : ℕ → ℕ → List ℕ → List IsoPacketDesc

@@ -1,14 +1,12 @@
 -- reaped (Idle).
-use Rattle.std.specs.Prelude.{ℕ, Bool, true, false, cond, ◌||◌, List, eqb, ℤ, pos, negsuc}
+use Rattle.std.specs.Prelude.{ℕ, Bool, true, false, cond, ◌||◌, List, eqb, ℤ, pos, negsuc, Option, Some, None, Result, Ok, Err}
 use Rattle.error.specs.declared.Error.{Error}
 use Rattle.error.specs.Errno.{from_errno}
 use Rattle.error.specs.declared.ErrnoContext.{ErrnoContext}
 use Rattle.layout.specs.declared.Setup.{Setup}
-use Rattle.ring.specs.declared.Found.{Found}
 use Rattle.stream.specs.declared.Answer.{Answer}
 use Rattle.stream.specs.declared.Completion.{Completion}
 use Rattle.stream.specs.declared.IsoStats.{IsoStats}
-use Rattle.stream.specs.declared.Reaping.{Reaping}
 use Rattle.ledger.specs.Ledger.{Ledger, Mark, home, out, discarded, with_totals, mark_of, returned, plus}
 use Rattle.ledger.specs.Notice.{slot_of_urb, completion_of}
 use Rattle.ledger.specs.Step.{Next, Rule, refused, on_block, when_idle}
@@ -56,9 +54,9 @@ noticed s discarded i l block =
     record { ledger = returned i l; answer = Answer.Completed (completion_of s i true block); lent = block }
 
 -- Foreign where the address names no slot.
-unfoldable pub by_address : Setup → Found → Ledger → List ℕ → Next
-by_address s Found.Nothing l block = record { ledger = l; answer = Answer.Foreign; lent = block }
-by_address s (Found.Slot i) l block = noticed s (mark_of l i) i l block
+unfoldable pub by_address : Setup → Option ℕ → Ledger → List ℕ → Next
+by_address s None l block = record { ledger = l; answer = Answer.Foreign; lent = block }
+by_address s (Some i) l block = noticed s (mark_of l i) i l block
 
 -- Errno 11: Nothing. Others by the errno; nothing differs.
 unfoldable pub by_errno : ℕ → Ledger → List ℕ → Next
@@ -70,9 +68,9 @@ by_errno errno l block =
     }
 
 -- By the kernel's reply.
-unfoldable pub reaped_idle : Reaping → Rule
-reaped_idle (Reaping.Errno e) s l block = by_errno e l block
-reaped_idle (Reaping.Address a) s l block = by_address s (slot_of_urb s a block) l block
+unfoldable pub reaped_idle : Result ℕ ℕ → Rule
+reaped_idle (Err e) s l block = by_errno e l block
+reaped_idle (Ok a) s l block = by_address s (slot_of_urb s a block) l block
 
-unfoldable pub reaped : Reaping → Rule
+unfoldable pub reaped : Result ℕ ℕ → Rule
 reaped reply = on_block (when_idle (reaped_idle reply))

@@ -1,5 +1,5 @@
 -- submitted (Sending, Silent).
-use Rattle.std.specs.Prelude.{ℕ, zero, suc, ◌*◌, true, List}
+use Rattle.std.specs.Prelude.{ℕ, zero, suc, ◌*◌, true, List, Result, Ok, Err}
 use Rattle.error.specs.declared.Error.{Error}
 use Rattle.error.specs.Errno.{from_errno}
 use Rattle.error.specs.declared.ErrnoContext.{ErrnoContext}
@@ -7,7 +7,6 @@ use Rattle.layout.specs.declared.Setup.{Setup}
 use Rattle.ring.specs.declared.Hand.{Hand}
 use Rattle.stream.specs.declared.Answer.{Answer}
 use Rattle.stream.specs.declared.IsoStats.{IsoStats}
-use Rattle.stream.specs.declared.Submission.{Submission}
 use Rattle.ledger.specs.Ledger.{Ledger, out, with_hand, with_flags, with_totals, marked, plus}
 use Rattle.ledger.specs.Notice.{buffer_bytes}
 use Rattle.ledger.specs.Step.{Next, Rule, refused, on_block, put_back}
@@ -40,29 +39,29 @@ submit_failed s i errno l block =
     l block
 
 -- From Sending: Idle, Done.
-unfoldable pub sent : Submission → ℕ → Rule
-sent Submission.Accepted i s l block =
+unfoldable pub sent : Result (Unit {0}) ℕ → ℕ → Rule
+sent (Ok tt) i s l block =
     record { ledger = accepted_ledger s i l block; answer = Answer.Done; lent = block }
-sent (Submission.Errno e) i s l block = submit_failed s i e l block
+sent (Err e) i s l block = submit_failed s i e l block
 
 -- From Silent left 1: next front slot silenced with left 0; left 0 or empty queue: as turn's taking.
 unfoldable pub chained : Setup → ℕ → Ledger → List ℕ → Next
 chained s zero l block = take_front l.queue l block
 chained s (suc more) l block = silence_front s more l.queue l block
 
-unfoldable pub silent : Submission → ℕ → ℕ → Rule
-silent Submission.Accepted i left s l block = chained s left (accepted_ledger s i l block) block
-silent (Submission.Errno e) i left s l block = submit_failed s i e l block
+unfoldable pub silent : Result (Unit {0}) ℕ → ℕ → ℕ → Rule
+silent (Ok tt) i left s l block = chained s left (accepted_ledger s i l block) block
+silent (Err e) i left s l block = submit_failed s i e l block
 
 -- By the hand; 9 for a wrong one.
-unfoldable pub by_sending : Submission → Hand → Rule
+unfoldable pub by_sending : Result (Unit {0}) ℕ → Hand → Rule
 by_sending reply Hand.Idle s l block = refused Error.WrongHand l block
 by_sending reply (Hand.Held i) s l block = refused Error.WrongHand l block
 by_sending reply (Hand.Sending i) s l block = sent reply i s l block
 by_sending reply (Hand.Silent i left) s l block = silent reply i left s l block
 
-unfoldable pub submitted_hand : Submission → Rule
+unfoldable pub submitted_hand : Result (Unit {0}) ℕ → Rule
 submitted_hand reply s l block = by_sending reply l.hand s l block
 
-unfoldable pub submitted : Submission → Rule
+unfoldable pub submitted : Result (Unit {0}) ℕ → Rule
 submitted reply = on_block (submitted_hand reply)

@@ -4,19 +4,26 @@
 
 pub mod local;
 
-ghost use Rattle.std.specs.Prelude.{[]};
+ghost use Rattle.std.specs.Prelude.{◌≡◌, []};
 ghost use Rattle.ledger.specs.Calls.{Call};
 ghost use Rattle.ledger.specs.Told.{Told};
 
-use stream::{Answer, Reaping, Stream, Submission};
+use stream::{Answer, Reply, Stream};
+
+// Stores a reply's record, and gives its answer.
+fn store(reply: Reply, s: &mut Stream) -> Answer
+    ensures record_stored { s.new ≡ reply.stream }
+    ensures answer { result ≡ reply.answer }
+{
+    *s = reply.stream;
+    reply.answer
+}
 
 // turn::turn on a lent record.
 pub fn turn(s: &mut Stream, block: &mut [u8]) -> Answer
     ensures { Told (Call.turn block.old) s.old result s.new block.new }
 {
-    let reply = turn::turn(*s, block);
-    *s = reply.stream;
-    reply.answer
+    store(turn::turn(*s, block), s)
 }
 
 // commit::commit on a lent record.
@@ -24,9 +31,7 @@ pub fn commit(s: &mut Stream, bytes: usize, block: &mut [u8]) -> Answer
     ensures { Told (Call.commit bytes block.old)
         s.old result s.new block.new }
 {
-    let reply = commit::commit(*s, bytes, block);
-    *s = reply.stream;
-    reply.answer
+    store(commit::commit(*s, bytes, block), s)
 }
 
 // commit::commit_full on a lent record.
@@ -34,9 +39,7 @@ pub fn commit_full(s: &mut Stream, block: &mut [u8]) -> Answer
     ensures { Told (Call.commit_full block.old)
         s.old result s.new block.new }
 {
-    let reply = commit::commit_full(*s, block);
-    *s = reply.stream;
-    reply.answer
+    store(commit::commit_full(*s, block), s)
 }
 
 // commit::commit_packets on a lent record.
@@ -44,63 +47,49 @@ pub fn commit_packets(s: &mut Stream, lengths: &[usize], block: &mut [u8]) -> An
     ensures { Told (Call.commit_packets lengths.now block.old)
         s.old result s.new block.new }
 {
-    let reply = commit::commit_packets(*s, lengths, block);
-    *s = reply.stream;
-    reply.answer
+    store(commit::commit_packets(*s, lengths, block), s)
 }
 
 // submitted::submitted on a lent record.
-pub fn submitted(s: &mut Stream, reply: Submission, block: &mut [u8]) -> Answer
+pub fn submitted(s: &mut Stream, reply: Result<(), u32>, block: &mut [u8]) -> Answer
     ensures { Told (Call.submitted reply block.old)
         s.old result s.new block.new }
 {
-    let done = submitted::submitted(*s, reply, block);
-    *s = done.stream;
-    done.answer
+    store(submitted::submitted(*s, reply, block), s)
 }
 
 // reaped::reaped on a lent record.
-pub fn reaped(s: &mut Stream, reply: Reaping, block: &[u8]) -> Answer
+pub fn reaped(s: &mut Stream, reply: Result<usize, u32>, block: &[u8]) -> Answer
     ensures { Told (Call.reaped reply block.now)
         s.old result s.new block.now }
 {
-    let done = reaped::reaped(*s, reply, block);
-    *s = done.stream;
-    done.answer
+    store(reaped::reaped(*s, reply, block), s)
 }
 
 // control::give_back on a lent record.
 pub fn give_back(s: &mut Stream) -> Answer
     ensures { Told Call.give_back s.old result s.new [] }
 {
-    let reply = control::give_back(*s);
-    *s = reply.stream;
-    reply.answer
+    store(control::give_back(*s), s)
 }
 
 // control::start on a lent record.
 pub fn start(s: &mut Stream) -> Answer
     ensures { Told Call.start s.old result s.new [] }
 {
-    let reply = control::start(*s);
-    *s = reply.stream;
-    reply.answer
+    store(control::start(*s), s)
 }
 
 // control::stop on a lent record.
 pub fn stop(s: &mut Stream, list: &mut [usize]) -> Answer
     ensures { Told (Call.stop list.old) s.old result s.new list.new }
 {
-    let reply = control::stop(*s, list);
-    *s = reply.stream;
-    reply.answer
+    store(control::stop(*s, list), s)
 }
 
 // control::finish on a lent record.
 pub fn finish(s: &mut Stream) -> Answer
     ensures { Told Call.finish s.old result s.new [] }
 {
-    let reply = control::finish(*s);
-    *s = reply.stream;
-    reply.answer
+    store(control::finish(*s), s)
 }

@@ -4,7 +4,7 @@ ghost use Rattle.std.specs.Prelude.{[]};
 ghost use Rattle.ledger.specs.Calls.{Call};
 ghost use Rattle.ledger.specs.Told.{Told};
 
-use stream::{Reaping, Reply, Stream, Submission};
+use stream::{Reply, Stream};
 
 // What turn::turn promises.
 pub fn turn(mut s: Stream, block: &mut [u8]) -> Reply
@@ -40,7 +40,7 @@ pub fn commit_packets(mut s: Stream, lengths: &[usize], block: &mut [u8]) -> Rep
 }
 
 // What submitted::submitted promises.
-pub fn submitted(mut s: Stream, reply: Submission, block: &mut [u8]) -> Reply
+pub fn submitted(mut s: Stream, reply: Result<(), u32>, block: &mut [u8]) -> Reply
     ensures { Told (Call.submitted reply block.old) s result.answer result.stream block.new }
 {
     let answer = crate::submitted(&mut s, reply, block);
@@ -48,7 +48,7 @@ pub fn submitted(mut s: Stream, reply: Submission, block: &mut [u8]) -> Reply
 }
 
 // What reaped::reaped promises.
-pub fn reaped(mut s: Stream, reply: Reaping, block: &[u8]) -> Reply
+pub fn reaped(mut s: Stream, reply: Result<usize, u32>, block: &[u8]) -> Reply
     ensures { Told (Call.reaped reply block.now) s result.answer result.stream block.now }
 {
     let answer = crate::reaped(&mut s, reply, block);

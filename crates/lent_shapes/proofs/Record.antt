@@ -6,23 +6,27 @@ use seplogic.Ra.Ura.{Ura}
 use mir.Syntax.{Ty, ty_int, w64}
 use mir.Val.{vint}
 use types.Logic.{Logic}
-use denote.Builtin.{usize}
+use denote.Builtin.{u32, usize}
+use denote.Param.{layout}
+use denote.Param.Laws.{field_told, of_field}
+use denote.Param.Shared.{copy_shared}
+use denote.Struct.Field.{Field, unit-field, u32-field, usize-field}
+use denote.Struct.Laws.{FLaws, Copyable, Plain, unit-laws, unit-copy, unit-plain}
+use denote.Struct.Laws.{u32-laws, u32-copy, u32-plain, usize-laws, usize-copy, usize-plain}
 use denote.Laws.{Typed}
-use denote.Plain.{uint_Tells, uint_Lawful, uint_Makes}
+use denote.Plain.{Nothing, uint_Tells, uint_Lawful, uint_Makes}
 use denote.Struct.Laws as LL
 use denote.Enum.Laws as EL
 use denote.Enum.Enum.{Few, Plainss}
 use denote.Enum.Declared.{Declared, shape, variants, row}
+use Rattle.std.specs.contracts.result.Result as Result
+use Rattle.std.proofs.result.Result.TheLaws as Result'
 use Rattle.stream.specs.contracts.Answer as N
 use Rattle.stream.proofs.Answer.TheLaws as N'
-use Rattle.stream.specs.contracts.Reaping as Reaping
-use Rattle.stream.proofs.Reaping.TheLaws as Reaping'
 use Rattle.stream.specs.contracts.Reply as R
 use Rattle.stream.proofs.Reply.TheLaws as R'
 use Rattle.stream.specs.contracts.Stream as S
 use Rattle.stream.proofs.Stream.TheLaws as S'
-use Rattle.stream.specs.contracts.Submission as Submission
-use Rattle.stream.proofs.Submission.TheLaws as Submission'
 use Rattle.lent_shapes.proofs.Types.{Datum, Pair}
 
 module _ {M : Type 1} {𝓤 : Ura M} (𝓛 : Logic 𝓤) where
@@ -45,6 +49,13 @@ module _ {M : Type 1} {𝓤 : Ura M} (𝓛 : Logic 𝓤) where
     fits = λ x v is. (subst (λ (τs : List Ty). Typed τs (v ∷ [])) one ((EL.lawful D L 𝓛 few).typed x _ is)).0;
     makes = EL.makes D plain 𝓛;
   }
+
+  -- a Result whose error is a u32
+  abbrev result : (F : Field) → FLaws F → Copyable F → Plain F → F.row.mir ≡ layout F.row ∷ [] → Datum 𝓛 (Result.the_row F.row u32)
+  result F L copy plain one =
+      let value = of_field F L one (copy_shared F copy) in let error = of_field u32-field u32-laws refl (copy_shared u32-field u32-copy) in
+      let laws = Result'.the_laws F.row u32 value error (field_told F L) (field_told u32-field u32-laws) in
+      enum (Result.the_type F.row u32) laws _ refl tt (Result'.the_plain F.row u32 plain u32-plain)
 
   abbrev pub answer : Datum 𝓛 N.the_row
   answer = enum N.the_type N'.the_laws N'.mir refl tt N'.the_plain
@@ -75,8 +86,8 @@ module _ {M : Type 1} {𝓤 : Ura M} (𝓛 : Logic 𝓤) where
     makes = uint_Makes 𝓛 w64;
   }
 
-  abbrev pub submission : Datum 𝓛 Submission.the_row
-  submission = enum Submission.the_type Submission'.the_laws Submission'.mir refl tt Submission'.the_plain
+  abbrev pub submission : Datum 𝓛 (Result.the_row Nothing u32)
+  submission = result unit-field unit-laws unit-copy unit-plain refl
 
-  abbrev pub reaping : Datum 𝓛 Reaping.the_row
-  reaping = enum Reaping.the_type Reaping'.the_laws Reaping'.mir refl tt Reaping'.the_plain
+  abbrev pub reaping : Datum 𝓛 (Result.the_row usize u32)
+  reaping = result usize-field usize-laws usize-copy usize-plain refl

@@ -58,30 +58,27 @@ low-some n q k h l f =
 
 -- ---- two masks
 
--- an operation on each pair of words
-abbrev pub wordwise : (ℕ → ℕ → ℕ) → Mask → Mask → Mask
-wordwise op x y = record { a = op x.a y.a; b = op x.b y.b; c = op x.c y.c; d = op x.d y.d }
-
--- where it goes bit by bit, it goes place by place
+-- an operation on each pair of words: where it goes bit by bit, it goes place by place
 module _
     (op : ℕ → ℕ → ℕ)
     (law : Bool → Bool → Bool)
     (small : (x y : ℕ) → x < 2 ^ 64 → y < 2 ^ 64 → op x y < 2 ^ 64)
     (bits : (j x y : ℕ) → j < 64 → y < 2 ^ 64 → bit (op x y) j ≡ law (bit x j) (bit y j))
-    (x y : Mask)
+    (x y r : Mask)
     (l : Fits x)
-    (k : Fits y) where
-  pub words-law : wordwise op x y ≡ mask_of (λ j. law (member x j) (member y j))
+    (k : Fits y)
+    (e : (r.a ≡ op x.a y.a) × (r.b ≡ op x.b y.b) × (r.c ≡ op x.c y.c) × (r.d ≡ op x.d y.d)) where
+  pub words-law : r ≡ mask_of (λ j. law (member x j) (member y j))
   unfolding member word_at
   words-law =
-      mask-of (wordwise op x y) (λ j. law (member x j) (member y j))
-      (fits (wordwise op x y)
-      (small x.a y.a l.a k.a)
-      (small x.b y.b l.b k.b)
-      (small x.c y.c l.c k.c)
-      (small x.d y.d l.d k.d))
+      mask-of r (λ j. law (member x j) (member y j))
+      (fits r
+      (rw e.0 (small x.a y.a l.a k.a))
+      (rw e.1 (small x.b y.b l.b k.b))
+      (rw e.2 (small x.c y.c l.c k.c))
+      (rw e.3 (small x.d y.d l.d k.d)))
       (λ i h.
-      member-words (wordwise op x y) (λ q. op (word_at x q) (word_at y q)) refl refl refl refl i h ∙
+      member-words r (λ q. op (word_at x q) (word_at y q)) e.0 e.1 e.2 e.3 i h ∙
       bits (i % 64) (word_at x (i / 64)) (word_at y (i / 64)) (omega arith) (word_fits k (i / 64) (omega arith)))
 
 -- one of them has one place alone

@@ -35,7 +35,7 @@ fn low(n: usize, q: usize) -> u64
         return 0;
     }
     if from + 64 <= n {
-        return 0xffff_ffff_ffff_ffff;
+        return u64::MAX;
     }
     (1u64 << (n - from)) - 1
 }
@@ -77,52 +77,47 @@ impl Mask {
         }
     }
 
+    // Internal: each word of this mask with that of the other.
+    #[inline(always)]
+    fn zip<F: Fn(u64, u64) -> u64>(self, other: Mask, f: F) -> Mask
+        requires { F.IsAlwaysCallable f }
+        ensures { F.post f self.a other.a result.a × F.post f self.b other.b result.b
+            × F.post f self.c other.c result.c × F.post f self.d other.d result.d }
+    {
+        Mask {
+            a: f(self.a, other.a),
+            b: f(self.b, other.b),
+            c: f(self.c, other.c),
+            d: f(self.d, other.d),
+        }
+    }
+
     // The places in one or both.
     pub fn union(self, other: Mask) -> Mask
         ensures { result ≡ mask_of (λ j. member self j || member other j) }
     {
-        Mask {
-            a: self.a | other.a,
-            b: self.b | other.b,
-            c: self.c | other.c,
-            d: self.d | other.d,
-        }
+        self.zip(other, |x, y| x | y)
     }
 
     // The places in both.
     pub fn intersection(self, other: Mask) -> Mask
         ensures { result ≡ mask_of (λ j. member self j && member other j) }
     {
-        Mask {
-            a: self.a & other.a,
-            b: self.b & other.b,
-            c: self.c & other.c,
-            d: self.d & other.d,
-        }
+        self.zip(other, |x, y| x & y)
     }
 
     // The places that the other has not.
     pub fn difference(self, other: Mask) -> Mask
         ensures { result ≡ mask_of (λ j. member self j && not (member other j)) }
     {
-        Mask {
-            a: self.a & !other.a,
-            b: self.b & !other.b,
-            c: self.c & !other.c,
-            d: self.d & !other.d,
-        }
+        self.zip(other, |x, y| x & !y)
     }
 
     // The places in one and not in both.
     pub fn symmetric_difference(self, other: Mask) -> Mask
         ensures { result ≡ mask_of (λ j. not (beq (member self j) (member other j))) }
     {
-        Mask {
-            a: self.a ^ other.a,
-            b: self.b ^ other.b,
-            c: self.c ^ other.c,
-            d: self.d ^ other.d,
-        }
+        self.zip(other, |x, y| x ^ y)
     }
 
     // Whether it has no place.

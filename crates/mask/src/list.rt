@@ -1,5 +1,5 @@
 // The places of a mask as a list.
-ghost use Rattle.std.specs.Prelude.{[], ◌≡◌, ◌+◌, ◌≤◌, length};
+ghost use Rattle.std.specs.Prelude.{◌≡◌, ◌+◌, ◌≤◌, length};
 ghost use Rattle.mask.specs.Bits.{bit, places};
 ghost use Rattle.mask.specs.Masks.{member, list_of, with_more};
 
@@ -12,16 +12,6 @@ pub struct MaskList {
     pub count: usize,
 }
 
-// Internal: no places.
-fn empty_list() -> MaskList
-    ensures { result ≡ list_of [] }
-{
-    MaskList {
-        places: [0; 256],
-        count: 0,
-    }
-}
-
 // Internal: the list with the places of a word at its end, counted from base. A round finds the lowest place left by
 // counting trailing zeros, and takes it out of the word.
 fn list_word(mut list: MaskList, word: u64, base: usize) -> MaskList
@@ -30,10 +20,9 @@ fn list_word(mut list: MaskList, word: u64, base: usize) -> MaskList
 {
     let mut left = word;
     while left != 0 {
-        let count = list.count;
-        list.places[count] = (base + u64::trailing_zeros(left) as usize) as u8;
-        list.count = count + 1;
-        left = left & (left - 1);
+        list.places[list.count] = (base + left.trailing_zeros() as usize) as u8;
+        list.count += 1;
+        left &= left - 1;
     }
     list
 }
@@ -43,7 +32,10 @@ impl Mask {
     pub fn list(self) -> MaskList
         ensures { result ≡ list_of (places 0 256 (member self)) }
     {
-        let list = empty_list();
+        let list = MaskList {
+            places: [0; 256],
+            count: 0,
+        };
         let list = list_word(list, self.a, 0);
         let list = list_word(list, self.b, 64);
         let list = list_word(list, self.c, 128);

@@ -1,11 +1,13 @@
--- Laws of descriptors read one after the other: reading several is reading the first and then the others, their sums go the same way, and the descriptors of a
--- part are those of the block at the part's offset. Each goes by the packets that are left. Assumes nothing.
+-- Laws of descriptors read one after the other: reading several is reading the first and then the others, their sums go the same way, and
+-- the descriptors of a part are those of the block at the part's offset. Each goes by the packets that are left. Assumes nothing.
 use mathlib.Core.Path.{◌≡◌, refl, sym, ap, ◌∙◌}
 use mathlib.Core.List.{List, [], ◌∷◌}
-use Prim.Native.Nat.{ℕ, zero, suc, ◌+◌, ◌-◌, ◌*◌, ◌≤◌, ◌<◌}
+use Prim.Native.Nat.{ℕ, zero, suc, ◌+◌, ◌-◌, ◌*◌, ◌/◌, ◌≤◌, ◌<◌}
 use native.Mathlib.Nat.{add_assoc, add-zero}
 use native.Mathlib.Omega.{arith}
-use lib.ListN.{length}
+use lib.ListN.{length, drop, length-drop}
+use lib.Seq.{length-take-le}
+use Rattle.sys.specs.declared.descriptor.IsoPacketDesc.{IsoPacketDesc}
 use Rattle.sys.specs.Bytes.{part, field}
 use Rattle.sys.specs.Descriptor.{length_at, desc_actual_length_at, desc_status_at, desc_size, desc_at}
 use Rattle.sys.proofs.Fields.{field-part}
@@ -45,11 +47,20 @@ packets-part (suc p) at n i l h room =
     let rest = packets-part p at n (i + desc_size) l (omega arith) room ∙ ap (λ (m : ℕ). packets_at p m l) (sym (add_assoc at i desc_size)) in
     λ x. desc-part at n i l (omega arith) room x ∷ rest x
 
+-- the descriptors that a list holds from its start on
+abbrev pub whole : List ℕ → List IsoPacketDesc
+whole l = packets_at (length l / desc_size) 0 l
+
 -- the descriptors of a part that holds p of them
-pub packets-of-part : (p at : ℕ) (l : List ℕ) → at + desc_size * p ≤ length l → packets_at p 0 (part at (at + desc_size * p - at) l) ≡ packets_at p at l
+pub packets-of-part : (p at : ℕ) (l : List ℕ) → at + desc_size * p ≤ length l
+    → whole (part at (at + desc_size * p - at) l) ≡ packets_at p at l
 packets-of-part p at l room =
     let same : at + desc_size * p - at ≡ desc_size * p = omega arith in
-    ap (λ (n : ℕ). packets_at p 0 (part at n l)) same
+    let long : length (part at (desc_size * p) l) ≡ desc_size * p =
+    length-take-le (desc_size * p) (drop at l) (simp length-drop (omega arith)) in
+    let count : length (part at (desc_size * p) l) / desc_size ≡ p = omega arith in
+    ap (λ (n : ℕ). whole (part at n l)) same
+    ∙ ap (λ (n : ℕ). packets_at n 0 (part at (desc_size * p) l)) count
     ∙ packets-part p at (desc_size * p) 0 l (omega arith) room
     ∙ ap (λ (m : ℕ). packets_at p m l) (add-zero at)
 

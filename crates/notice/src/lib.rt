@@ -2,14 +2,13 @@
 // block's length and, where it names a slot, its number before it asks.
 #![tactic(auto)]
 
-ghost use Rattle.std.specs.Prelude.{◌≡◌, true, ◌-◌, ◌*◌, ◌≤◌, ◌<◌, length};
+ghost use Rattle.std.specs.Prelude.{◌≡◌, true, ◌*◌, ◌/◌, ◌≤◌, ◌<◌, length};
 ghost use Rattle.sys.specs.Descriptor.{desc_size};
 ghost use Rattle.layout.specs.Opening.{admissible, total_of};
 ghost use Rattle.ledger.specs.Notice.{buffer_bytes, packets_at, completion_of, slot_at, slot_of_urb};
 ghost use Rattle.notice.specs.Sums.{sums_of};
 
 use layout::{Setup, masked};
-use ring::Found;
 use stream::Completion;
 use sys::IsoPacketDesc;
 use sys::field::non_negative;
@@ -22,6 +21,7 @@ struct Sums {
 }
 
 // Internal: slot i's buffer length, or 0 where it is negative.
+#[tactic(auto, unfolding(ledger::specs::Notice::buffer_bytes, urb_view::specs::Viewed::fields_of))]
 pub fn buffer_bytes(setup: Setup, block: &[u8], i: usize) -> u64
     requires { (admissible setup ≡ true) × (i < setup.slots) × (length block.now ≡ total_of setup) }
     ensures { result ≡ buffer_bytes setup i block.now }
@@ -31,27 +31,17 @@ pub fn buffer_bytes(setup: Setup, block: &[u8], i: usize) -> u64
     non_negative(header.buffer_length)
 }
 
-// What `actual` lacks of `length`.
-fn lacking(length: u64, actual: u64) -> u64
-    ensures { result ≡ length - actual }
-{
-    if actual < length { length - actual } else { 0 }
-}
-
 // Internal: the sums over the descriptors that the part holds.
-fn packet_sums(descs: &[u8], packets: usize) -> Sums
-    requires { (packets ≤ 128) × (desc_size * packets ≤ length descs.now) }
-    ensures { result ≡ sums_of (packets_at packets 0 descs.now) }
+fn packet_sums(descs: &[u8]) -> Sums
+    requires { length descs.now ≤ desc_size * 128 }
+    ensures { result ≡ sums_of (packets_at (length descs.now / desc_size) 0 descs.now) }
 {
     let mut requested: u64 = 0;
     let mut short: u64 = 0;
-    let mut k = 0;
-    while k < packets {
-        let d = IsoPacketDesc::load(descs, IsoPacketDesc::SIZE * k);
-        let length = d.length as u64;
-        requested += length;
-        short += lacking(length, d.actual_length as u64);
-        k += 1;
+    for k in 0..descs.len() / IsoPacketDesc::SIZE {
+        let packet = IsoPacketDesc::load(descs, IsoPacketDesc::SIZE * k);
+        requested += u64::from(packet.length);
+        short += u64::from(packet.length.saturating_sub(packet.actual_length));
     }
     Sums { requested, short }
 }
@@ -64,7 +54,7 @@ pub fn complete(setup: Setup, block: &[u8], i: usize, was_discarded: bool) -> Co
     let at = setup.places(i);
     let descs = at.descs;
     let end = descs + IsoPacketDesc::SIZE * at.packets;
-    let sums = packet_sums(&block[descs..end], at.packets);
+    let sums = packet_sums(&block[descs..end]);
     let header = urb_view::fields(block, at.header);
     Completion {
         status: header.status,
@@ -78,35 +68,26 @@ pub fn complete(setup: Setup, block: &[u8], i: usize, was_discarded: bool) -> Co
 
 // Internal: the slot whose header stands at an offset, by the offset and by the cookie. The cookie is the slot's
 // number, which no tag can alter: an address that only happens to fit is another stream's.
-fn slot_at(setup: Setup, block: &[u8], offset: usize) -> Found
+fn slot_at(setup: Setup, block: &[u8], offset: usize) -> Option<usize>
     requires { (admissible setup ≡ true) × (length block.now ≡ total_of setup) }
     ensures { result ≡ slot_at setup offset block.now }
 {
-    let layout = setup.layout_of();
-    let stride = layout.slot_stride;
-    if setup.slots * stride <= offset {
-        return Found::Nothing;
-    }
-    if offset % stride != 0 {
-        return Found::Nothing;
+    let stride = setup.layout_of().slot_stride;
+    if setup.slots * stride <= offset || offset % stride != 0 {
+        return None;
     }
     let i = offset / stride;
     let header = urb_view::fields(block, i * stride);
-    if header.usercontext != i as u64 {
-        return Found::Nothing;
-    }
-    Found::Slot(i)
+    (header.usercontext == i as u64).then_some(i)
 }
 
 // Internal: the slot that an address from the kernel names.
-pub fn slot_of_urb(setup: Setup, block: &[u8], address: usize) -> Found
+pub fn slot_of_urb(setup: Setup, block: &[u8], address: usize) -> Option<usize>
     requires { (admissible setup ≡ true) × (length block.now ≡ total_of setup) }
     ensures { result ≡ slot_of_urb setup address block.now }
 {
     let base = masked(setup.tagged, setup.base);
     let at = masked(setup.tagged, address);
-    if at < base {
-        return Found::Nothing;
-    }
-    slot_at(setup, block, at - base)
+    let offset = at.checked_sub(base)?;
+    slot_at(setup, block, offset)
 }

@@ -1,5 +1,6 @@
 -- Opening gives a layout exactly for admissible values with a block of their total, and it is theirs.
 -- By the tests in their order. Assumes nothing.
+use Rattle.std.specs.Prelude.{Ok}
 use Prim.Native.Nat.{ℕ, ◌+◌, ◌%◌}
 use mathlib.Core.Path.{◌≡◌, refl, sym, ◌∙◌}
 use mathlib.Core.Bool.{true, not}
@@ -7,7 +8,6 @@ use mathlib.Core.Option.{Option, none, some}
 use lib.Dec.{eqb}
 use borrow.Author.Tests.{eq-eqb, le-ltb, eqb-true, not-false}
 use Rattle.error.specs.declared.Error.{Error}
-use Rattle.layout.specs.declared.Laid.{Laid}
 use Rattle.layout.specs.declared.RingLayout.{RingLayout}
 use Rattle.layout.specs.declared.Setup.{Setup}
 use Rattle.layout.specs.Layout.{laid}
@@ -19,7 +19,7 @@ use Rattle.layout.proofs.Limits.{limited, limited-passes}
 use Rattle.layout.proofs.Refusals.{first-late, none-front, none-next}
 use Rattle.opening.specs.Refusals.{block_length, refusal_of, opens}
 
-laid_none : (o : Option Error) (l m : RingLayout) → laid o l ≡ Laid.Layout m → (o ≡ none) × (m ≡ l)
+laid_none : (o : Option Error) (l m : RingLayout) → laid o l ≡ Ok m → (o ≡ none) × (m ≡ l)
 unfolding laid
 laid_none none l m h = (refl, cc)
 laid_none (some e) l m h = (cc, cc)
@@ -29,7 +29,7 @@ pub record Opened (s : Setup) (len : ℕ) (l : RingLayout) : Type 0 where
   pub length : len ≡ total_of s
   pub layout : l ≡ layout_for s
 
-pub opened-layout : (s : Setup) (len : ℕ) (l : RingLayout) → opens s len ≡ Laid.Layout l → Opened s len l
+pub opened-layout : (s : Setup) (len : ℕ) (l : RingLayout) → opens s len ≡ Ok l → Opened s len l
 unfolding opens refusal_of block_length base_address
 opened-layout s len l h =
     let o = laid_none (refusal_of s len) (layout_for s) l h in
@@ -44,7 +44,7 @@ opened-layout s len l h =
       layout = o.1;
     }
 
-pub admissible-opens : (s : Setup) → admissible s ≡ true → opens s (total_of s) ≡ Laid.Layout (layout_for s)
+pub admissible-opens : (s : Setup) → admissible s ≡ true → opens s (total_of s) ≡ Ok (layout_for s)
 unfolding opens refusal_of laid block_length base_address bad_base first
 admissible-opens s h =
     let a = admits s h in

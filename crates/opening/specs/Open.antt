@@ -1,6 +1,7 @@
 -- The paper's section Opening: the block that opening makes, and its whole outcome.
-use Rattle.std.specs.Prelude.{ℕ, zero, suc, ◌+◌, ◌*◌, List, pos, length, replicate}
-use Rattle.layout.specs.declared.Laid.{Laid}
+use Rattle.layout.specs.declared.RingLayout.{RingLayout}
+use Rattle.error.specs.declared.Error.{Error}
+use Rattle.std.specs.Prelude.{ℕ, zero, suc, ◌+◌, ◌*◌, List, pos, length, replicate, Result, Ok, Err}
 use Rattle.layout.specs.declared.Setup.{Setup}
 use Rattle.layout.specs.Opening.{layout_for, total_of}
 use Rattle.stream.specs.declared.Answer.{Answer}
@@ -37,9 +38,9 @@ pub record OpenResult : Type 0 where
   pub block : List ℕ
 
 -- Refused: the record of no slots, block untouched. Else the opened record and the opened block.
-unfoldable pub opened_or : Laid → Setup → List ℕ → OpenResult
-opened_or (Laid.Refused e) s block = record { answer = Answer.Refused e; stream = no_stream; block = block }
-opened_or (Laid.Layout layout) s block = record { answer = Answer.Done; stream = opened_stream s; block = opened_block s }
+unfoldable pub opened_or : Result RingLayout Error → Setup → List ℕ → OpenResult
+opened_or (Err e) s block = record { answer = Answer.Refused e; stream = no_stream; block = block }
+opened_or (Ok layout) s block = record { answer = Answer.Done; stream = opened_stream s; block = opened_block s }
 
 -- What opening does with these values and a block.
 unfoldable pub open_outcome : Setup → List ℕ → OpenResult

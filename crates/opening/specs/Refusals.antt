@@ -1,8 +1,8 @@
 -- What opening refuses, by its values and the block's length: 1, 2, 3, 5 and 33, then 6, then 7.
-use Rattle.std.specs.Prelude.{ℕ, not, List, [], ◌∷◌, ◌++◌, eqb}
+use Rattle.layout.specs.declared.RingLayout.{RingLayout}
+use Rattle.std.specs.Prelude.{ℕ, not, List, [], ◌∷◌, ◌++◌, eqb, Result}
 use Rattle.std.proofs.Math.Option.{Option}
 use Rattle.error.specs.declared.Error.{Error}
-use Rattle.layout.specs.declared.Laid.{Laid}
 use Rattle.layout.specs.declared.Setup.{Setup}
 use Rattle.layout.specs.Layout.{laid}
 use Rattle.layout.specs.Opening.{layout_for, total_of, limits, base_address}
@@ -17,5 +17,5 @@ unfoldable pub refusal_of : Setup → ℕ → Option Error
 refusal_of s len = first (limits s ++ (block_length s len ++ base_address s))
 
 -- The layout of the values, or the refusal.
-unfoldable pub opens : Setup → ℕ → Laid
+unfoldable pub opens : Setup → ℕ → Result RingLayout Error
 opens s len = laid (refusal_of s len) (layout_for s)

@@ -8,28 +8,24 @@ ghost use Rattle.opening.specs.Opened.{opened_stream, no_setup, no_stream};
 ghost use Rattle.opening.specs.Open.{opened_header, opened_block, open_outcome};
 
 use error::Error;
-use layout::{Laid, Setup, Tested, Underrun};
+use layout::{RingLayout, Setup, Underrun};
 use ring::{Hand, Ring};
 use stream::{Answer, Flags, IsoStats, Reply, Stream};
 use sys::Urb;
 
 // What opening answers for a block of that length: its layout, or the first of refusals 1, 2, 3, 5, 33, 6, 7.
-pub fn opens(setup: Setup, block_len: usize) -> Laid
+pub fn opens(setup: Setup, block_len: usize) -> Result<RingLayout, Error>
     ensures { result ≡ opens_for setup block_len }
 {
-    match setup.test_limits() {
-        Tested::Refused(e) => Laid::Refused(e),
-        Tested::Passed => {
-            let layout = setup.layout_of();
-            if block_len != layout.total_bytes {
-                return Laid::Refused(Error::BlockLength);
-            }
-            if !setup.admissible() {
-                return Laid::Refused(Error::BaseAddress);
-            }
-            Laid::Layout(layout)
-        }
+    setup.test_limits()?;
+    let layout = setup.layout_of();
+    if block_len != layout.total_bytes {
+        return Err(Error::BlockLength);
     }
+    if !setup.admissible() {
+        return Err(Error::BaseAddress);
+    }
+    Ok(layout)
 }
 
 // Internal: the record of a ring that was just opened with these values.
@@ -82,15 +78,6 @@ pub fn no_stream() -> Stream
     opened(no_setup())
 }
 
-// Internal: every byte zero.
-fn clear(block: &mut [u8])
-    ensures { block.new ≡ replicate (length block.old) 0 }
-{
-    for i in 0..block.len() {
-        block[i] = 0;
-    }
-}
-
 // Internal: the header of slot i.
 fn header_of(setup: Setup, i: usize) -> Urb
     requires { (admissible setup ≡ true) × (i < setup.slots) }
@@ -111,7 +98,7 @@ fn init_headers(setup: Setup, block: &mut [u8])
     requires { (admissible setup ≡ true) × (length block.old ≡ total_of setup) }
     ensures { block.new ≡ opened_block setup }
 {
-    clear(block);
+    block.fill(0);
     for i in 0..setup.slots {
         let places = setup.places(i);
         let urb = header_of(setup, i);
@@ -126,11 +113,11 @@ pub fn open(setup: Setup, block: &mut [u8]) -> Reply
         × (block.new ≡ (open_outcome setup block.old).block) }
 {
     match opens(setup, block.len()) {
-        Laid::Refused(e) => Reply {
+        Err(e) => Reply {
             stream: no_stream(),
             answer: Answer::Refused(e),
         },
-        Laid::Layout(_) => {
+        Ok(_) => {
             init_headers(setup, block);
             Reply {
                 stream: opened(setup),

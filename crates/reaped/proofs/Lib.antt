@@ -1,4 +1,3 @@
-pub mod Bits
 pub mod Addresses
 pub mod Returns
 pub mod Replies

@@ -1,12 +1,11 @@
 -- What each end of reaped shows: the rule by the slot's mark, by what the address names and by the kernel's reply. Where nothing differs, storing what
 -- the record shows gives the record. Assumes nothing.
+use Rattle.std.specs.Prelude.{Option, None, Result}
 use Rattle.std.proofs.Common.{◌≡◌, ℕ, Bool, true, false, cond, List, [], sym, refl, ap, ◌∙◌, subst}
 use Rattle.error.specs.declared.Error.{Error}
-use Rattle.ring.specs.declared.Found.{Found}
 use Rattle.ring.proofs.Wide.{Wide}
 use Rattle.stream.specs.declared.Answer.{Answer}
 use Rattle.stream.specs.declared.Completion.{Completion}
-use Rattle.stream.specs.declared.Reaping.{Reaping}
 use Rattle.stream.specs.declared.Reply.{Reply}
 use Rattle.stream.specs.declared.Stream.{Stream}
 use Rattle.stream.specs.Sound.{sound}
@@ -39,12 +38,12 @@ pub by-mark : (s : Stream) (i : ℕ) (block : List ℕ) (m : Mark) → mark_of (
 by-mark s i block m e r g = subst (λ (x : Mark). Gives s (noticed s.setup x i (view s) block) r block) (sym e) g
 
 -- by what the address names
-pub by-found : (s : Stream) (block : List ℕ) (f g : Found) → f ≡ g → (r : Reply) → Gives s (by_address s.setup g (view s) block) r block → Gives s (by_address s.setup f (view s) block) r block
-by-found s block f g e r p = subst (λ (x : Found). Gives s (by_address s.setup x (view s) block) r block) (sym e) p
+pub by-found : (s : Stream) (block : List ℕ) (f g : Option ℕ) → f ≡ g → (r : Reply) → Gives s (by_address s.setup g (view s) block) r block → Gives s (by_address s.setup f (view s) block) r block
+by-found s block f g e r p = subst (λ (x : Option ℕ). Gives s (by_address s.setup x (view s) block) r block) (sym e) p
 
 -- by the reply
-pub by-reply : (s : Stream) (block : List ℕ) (reply told : Reaping) → reply ≡ told → (r : Reply) → Gives s (reaped_idle told s.setup (view s) block) r block → Gives s (reaped_idle reply s.setup (view s) block) r block
-by-reply s block reply told e r g = subst (λ (x : Reaping). Gives s (reaped_idle x s.setup (view s) block) r block) (sym e) g
+pub by-reply : (s : Stream) (block : List ℕ) (reply told : Result ℕ ℕ) → reply ≡ told → (r : Reply) → Gives s (reaped_idle told s.setup (view s) block) r block → Gives s (reaped_idle reply s.setup (view s) block) r block
+by-reply s block reply told e r g = subst (λ (x : Result ℕ ℕ). Gives s (reaped_idle x s.setup (view s) block) r block) (sym e) g
 
 -- an errno leaves any block as it was
 pub errno-lent : (s : Stream) (e : ℕ) (r : Reply) (block : List ℕ) → Gives s (by_errno e (view s) []) r [] → Gives s (by_errno e (view s) block) r block
@@ -63,6 +62,6 @@ module _ (s : Stream) (ok : sound s ≡ true) (wide : Wide s.ring) where
   unfolding noticed
   notice-stray i block r is = gives-refused s ok wide Error.StrayNotice block r is
 
-  pub named_none : (block : List ℕ) → Gives s (by_address s.setup Found.Nothing (view s) block) (record { stream = s; answer = Answer.Foreign }) block
+  pub named_none : (block : List ℕ) → Gives s (by_address s.setup None (view s) block) (record { stream = s; answer = Answer.Foreign }) block
   unfolding by_address
   named_none block = gives-kept s ok wide Answer.Foreign block

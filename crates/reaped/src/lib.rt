@@ -20,11 +20,10 @@ ghost use Rattle.ledger.specs.Told.{Told};
 
 use counters::totals_after;
 use error::{ErrnoContext, Error};
-use gate::{Gate, Lent, idle_test, refused};
+use gate::{idle_gate, refused};
 use notice::{complete, slot_of_urb};
-use ring::Found;
 use status::answer_for;
-use stream::{Answer, IsoStats, Reaping, Reply, Stream};
+use stream::{Answer, IsoStats, Reply, Stream};
 
 // Internal: slot i, which was out, at the queue's end; and other counters.
 fn returned(s: Stream, i: usize, stats: IsoStats) -> Stream
@@ -32,9 +31,7 @@ fn returned(s: Stream, i: usize, stats: IsoStats) -> Stream
         × (is_out (state_of s.ring i) ≡ true) }
     ensures { result ≡ stored s (with_totals stats (returned_rule i (view s))) }
 {
-    let ring = s.ring;
-    let hand = s.hand;
-    Stream::new(s.setup, ring.complete(i), hand, s.flags, stats)
+    Stream::new(s.setup, s.ring.complete(i), s.hand, s.flags, stats)
 }
 
 // Internal: slot i, which was out, is reaped: its completion decides on counters and answer.
@@ -59,9 +56,8 @@ fn noticed(s: Stream, block: &[u8], i: usize) -> Reply
     ensures { Gives s (noticed_rule s.setup (mark_of (view s) i) i (view s) block.now)
         result block.now }
 {
-    let ring = s.ring;
-    let was_discarded = ring.is_discarding(i);
-    if ring.is_out(i) {
+    let was_discarded = s.ring.is_discarding(i);
+    if s.ring.is_out(i) {
         reaped_slot(s, block, i, was_discarded)
     } else {
         refused(s, Error::StrayNotice)
@@ -76,11 +72,11 @@ fn by_address(s: Stream, block: &[u8], address: usize) -> Reply
         (view s) block.now) result block.now }
 {
     match slot_of_urb(s.setup, block, address) {
-        Found::Nothing => Reply {
+        None => Reply {
             stream: s,
             answer: Answer::Foreign,
         },
-        Found::Slot(i) => noticed(s, block, i),
+        Some(i) => noticed(s, block, i),
     }
 }
 
@@ -90,40 +86,32 @@ fn by_errno(s: Stream, errno: u32) -> Reply
     ensures { Gives s (by_errno errno (view s) []) result [] }
 {
     if errno == 11 {
-        return Reply {
+        Reply {
             stream: s,
             answer: Answer::Nothing,
-        };
+        }
+    } else {
+        refused(s, Error::from_errno(errno, ErrnoContext::Other))
     }
-    refused(s, Error::from_errno(errno, ErrnoContext::Other))
 }
 
 // Internal: reaped with the hand Idle, by the kernel's reply.
-fn reaped_idle(s: Stream, reply: Reaping, block: &[u8]) -> Reply
+fn reaped_idle(s: Stream, reply: Result<usize, u32>, block: &[u8]) -> Reply
     requires { (sound s ≡ true) × (s.hand ≡ Hand.Idle) × (length block.now ≡ total_of s.setup) }
     ensures { Gives s (reaped_idle reply s.setup (view s) block.now) result block.now }
 {
     match reply {
-        Reaping::Errno(errno) => by_errno(s, errno),
-        Reaping::Address(address) => by_address(s, block, address),
+        Err(errno) => by_errno(s, errno),
+        Ok(address) => by_address(s, block, address),
     }
 }
 
 // Takes the kernel's reply: an errno, or the address of a URB that is done. The block is only read.
-pub fn reaped(s: Stream, reply: Reaping, block: &[u8]) -> Reply
+pub fn reaped(s: Stream, reply: Result<usize, u32>, block: &[u8]) -> Reply
     ensures { Told (Call.reaped reply block.now) s result.answer result.stream block.now }
 {
-    let setup = s.setup;
-    let ring = s.ring;
-    let hand = s.hand;
-    let n = setup.slots;
-    let home = ring.home(n);
-    let is_sound = setup.admissible()
-        & ring.hand_sound(n, hand)
-        & ring.out_sound(n, home)
-        & ring.count_sound(n, hand);
-    match idle_test(is_sound, setup, hand, Lent::Block(block.len())) {
-        Gate::Refused(e) => refused(s, e),
-        Gate::Open => reaped_idle(s, reply, block),
+    match idle_gate(&s, Some(block.len())) {
+        Err(e) => refused(s, e),
+        Ok(()) => reaped_idle(s, reply, block),
     }
 }

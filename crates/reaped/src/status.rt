@@ -11,22 +11,17 @@ use stream::{Answer, Completion};
 fn is_gone(status: i32) -> bool
     ensures { result ≡ is_gone status }
 {
-    match status {
-        -19 => true,
-        -108 => true,
-        _ => false,
-    }
+    matches!(status, -19 | -108)
 }
 
 // 13 for a device that is gone, but not by a URB that was discarded.
+#[tactic(auto, unfolding(crate::specs::Completed::answer_for))]
 pub fn answer_for(done: Completion) -> Answer
     ensures { result ≡ answer_for done }
 {
-    if is_gone(done.status) {
-        if done.was_discarded {
-            return Answer::Completed(done);
-        }
-        return Answer::Refused(Error::Disconnected);
+    if is_gone(done.status) && !done.was_discarded {
+        Answer::Refused(Error::Disconnected)
+    } else {
+        Answer::Completed(done)
     }
-    Answer::Completed(done)
 }

@@ -1,6 +1,3 @@
--- The laws that the proofs cite. `Scan`: lines found by going through the bytes. `Put`: what was put of equal texts. `Joined`: the lines of any
--- table that is joined. `Rows`: those of the refusals' names and texts.
-pub mod Scan
+-- The laws that the proofs cite. `Put`: a text stored as far as there is room. `Rows`: the rows of the refusals in an array.
 pub mod Put
-pub mod Joined
 pub mod Rows

@@ -1,42 +1,41 @@
--- What was put of a text was put of any text equal to it: the answer and the slice are functions of the text.
--- What is left to put at a place of the slice: an iteration stores the first byte of it. Assumes nothing.
-use mathlib.Core.Path.{◌≡◌, ap, ◌∙◌}
-use mathlib.Core.List.{List, [], ◌∷◌, ◌++◌}
-use Prim.Native.Nat.{ℕ, suc, ◌+◌, ◌-◌, ◌≤◌, ◌<◌}
-use native.Mathlib.Nat.{sub-zero}
-use native.Mathlib.Numerals.{add-one}
+-- A text stored as far as there is room for a zero byte behind it, and then that. Assumes nothing.
+use mathlib.Core.Path.{◌≡◌, refl, sym, ap, ◌∙◌}
+use mathlib.Core.Logic.{◌⊎◌, inl, inr}
+use mathlib.Core.List.{List, [], ◌∷◌, ◌++◌, append_assoc}
+use Prim.Native.Nat.{ℕ, suc, ◌-◌, ◌≤◌, ◌<◌, min}
+use native.Mathlib.Nat.{zero-add}
 use native.Mathlib.Omega.{arith}
-use lib.ListN.{length, take, drop, get_or, set, drop_of_length-le}
-use lib.Seq.{sets, drop-cons, take-nil}
+use lib.ListN.{length, take, drop, set, length-append}
+use lib.Seq.{sets, sets-eq, drop-cons, length-take-le}
+use Rattle.std.proofs.lemmas.List.{set_at, take_all}
+use Rattle.std.proofs.lemmas.Bool.{cases_lt}
 use Rattle.refusal_text.specs.CString.{c_string}
 
-pub put_same : {text other after : List ℕ} {r : ℕ} (before : List ℕ) → text ≡ other
-    → (r ≡ length text) × (after ≡ c_string text before)
-    → (r ≡ length other) × (after ≡ c_string other before)
-put_same before e put = (put.0 ∙ ap length e, put.1 ∙ ap (λ (t : List ℕ). c_string t before) e)
+-- as much of the text as leaves room for a zero byte
+cut : (text : List ℕ) (n room : ℕ) → n ≡ min (length text) room → take n text ≡ take room text
+cut text n room e = go (cases_lt room (length text)) where
+  go : (room < length text) ⊎ (length text ≤ room) → take n text ≡ take room text
+  go (inl h) = let same : n ≡ room = omega arith in ap (λ (k : ℕ). take k text) same
+  go (inr h) = take_all n text (omega arith) ∙ sym (take_all room text h)
 
--- what is left to store in n bytes, from index i on
-unfoldable pub left : List ℕ → ℕ → ℕ → List ℕ
-left text n i = take (n - 1 - i) (drop i text) ++ (0 ∷ [])
+-- bytes with room and a zero byte behind them
+stored : (bytes out : List ℕ) (n : ℕ) → length bytes ≡ n → n < length out → bytes ++ (0 ∷ drop (suc n) out) ≡ sets out 0 (bytes ++ (0 ∷ []))
+stored bytes out n e h =
+    let all : length (bytes ++ (0 ∷ [])) ≡ suc n = omega (arith, length-append bytes (0 ∷ [])) in
+    rw (sets-eq (bytes ++ (0 ∷ [])) out 0 (omega arith), all, zero-add) (sym (append_assoc bytes (0 ∷ []) (drop (suc n) out)))
 
-pub put-begin : (text out : List ℕ) → sets out 0 (left text (length out) 0) ≡ c_string text out
-unfolding left c_string
-put-begin text out = rw sub-zero
+pub put_cut : (text out : List ℕ) (n : ℕ) → 0 < length out → n ≡ min (length text) (length out - 1) → set (take n text ++ drop n out) n 0 ≡ c_string text out
+unfolding c_string
+put_cut text out n h e =
+    let inside : n < length out = omega arith in
+    let size : length (take n text) ≡ n = length-take-le n text (omega arith) in
+    rw (drop-cons out n 0 inside)
+    (set_at (take n text) _ (drop (suc n) out) 0 n size
+    ∙ stored (take n text) out n size inside
+    ∙ ap (λ (l : List ℕ). sets out 0 (l ++ (0 ∷ []))) (cut text n (length out - 1) e))
 
-pub put-turn : (text out : List ℕ) (n i : ℕ) → i < length text → i + 1 < n
-    → sets (set out i (get_or text i 0)) (i + 1) (left text n (i + 1)) ≡ sets out i (left text n i)
-unfolding left
-put-turn text out n i h r =
-    let more : n - 1 - i ≡ suc (n - 1 - (i + 1)) = omega arith in
-    rw (more, drop-cons text i 0 h, add-one)
-
--- where no text is left, or no room for it, the zero byte alone is left to store
-pub put-none-text : (text out : List ℕ) (n i : ℕ) → length text ≤ i → sets out i (left text n i) ≡ set out i 0
-unfolding left
-put-none-text text out n i h = rw (drop_of_length-le text h, take-nil)
-
-pub put-none-room : (text out : List ℕ) (n i : ℕ) → n ≤ i + 1 → sets out i (left text n i) ≡ set out i 0
-unfolding left
-put-none-room text out n i h =
-    let none : n - 1 - i ≡ 0 = omega arith in
-    rw none
+-- an empty slice stays so
+pub put_nowhere : (text out : List ℕ) → length out ≡ 0 → out ≡ c_string text out
+unfolding c_string
+put_nowhere text [] h = refl
+put_nowhere text (b ∷ out) h = absurd (omega arith)

@@ -1,34 +1,43 @@
--- The line with a refusal's number is its name, or its text: the rows are numbered from 1 on and hold no newline, which computes, and 0,
--- which no row has, is the empty line before them. Assumes nothing.
+-- The rows of the refusals in an array, at the places that are their numbers: the rows are numbered from 1 on, which computes, and 0,
+-- which no row has, has an empty one. Assumes nothing.
 use mathlib.Core.Path.{◌≡◌, refl, sym, ap, ◌∙◌}
-use mathlib.Core.Bool.{true}
-use mathlib.Core.List.{List, [], ◌∷◌}
+use mathlib.Core.List.{List, [], ◌∷◌, map}
 use Prim.Native.Nat.{ℕ, zero, suc, ◌+◌}
 use Prim.Native.String.{String}
 use native.Mathlib.Omega.{arith}
+use borrow.Author.Tests.{eq-eqb, ne_eqb}
+use lib.ListN.{get_or}
+use Rattle.std.proofs.Common.{rules}
 use Rattle.refusal_text.specs.CString.{codes}
 use Rattle.refusal_text.specs.Refusals.{Refusal, refusals, row, name_of, text_of}
-use Rattle.refusal_text.specs.Lines.{behind, first_line, line_at}
-use Rattle.refusal_text.proofs.Joined.{plain, joined, listed, line-of-row}
 
--- an empty line, then a line a row
-unfoldable pub lines_of : (Refusal → String) → List ℕ
-lines_of column = 10 ∷ joined column refusals
+-- the rows are numbered from k on
+abbrev Numbered : ℕ → List Refusal → Type 0
+Numbered k [] = Unit {0}
+Numbered k (r ∷ rows) = (r.0 ≡ k) × Numbered (suc k) rows
 
-module _ (column : Refusal → String) (empty : (n : ℕ) → codes (column (n, "", "")) ≡ []) (rows : listed column 1 refusals ≡ true) where
-  none : line_at 0 (lines_of column) ≡ codes (column (row 0 refusals))
-  unfolding lines_of behind first_line refusals row
-  none = sym (empty 0)
+-- a text of each row: its name, or what it means; a number that no row has shows none
+module _ (column : Refusal → String) (empty : (n : ℕ) → codes (column (n, "", "")) ≡ []) where
+  column-row : (rows : List Refusal) (k n : ℕ) → Numbered k rows → get_or (map (λ r. codes (column r)) rows) n [] ≡ codes (column (row (k + n) rows))
+  unfolding row
+  column-row [] k n p = sym (empty (k + n))
+  column-row (r ∷ rows) k zero p = rw (eq-eqb (k + 0) r.0 (omega (arith, p.0)))
+  column-row (r ∷ rows) k (suc n) p =
+      let next : suc k + n ≡ k + suc n = omega arith in
+      rw (ne_eqb (k + suc n) r.0 (λ e. omega (arith, p.0)))
+      (column-row rows (suc k) n p.1 ∙ ap (λ (m : ℕ). codes (column (row m rows))) next)
 
-  later : (n : ℕ) → line_at (suc n) (lines_of column) ≡ line_at n (joined column refusals)
-  unfolding lines_of behind
-  later n = refl
+-- an empty text, then a text a row
+unfoldable pub texts_of : (Refusal → String) → List (List ℕ)
+texts_of column = [] ∷ map (λ r. codes (column r)) refusals
 
-  row_line : (n : ℕ) → line_at n (lines_of column) ≡ codes (column (row n refusals))
-  row_line zero = none
-  row_line (suc n) =
+module _ (column : Refusal → String) (empty : (n : ℕ) → codes (column (n, "", "")) ≡ []) where
+  text_at : Numbered 1 refusals → (n : ℕ) → get_or (texts_of column) n [] ≡ codes (column (row n refusals))
+  unfolding refusals row texts_of
+  text_at p zero = sym (empty 0)
+  text_at p (suc n) =
       let next : 1 + n ≡ suc n = omega arith in
-      later n ∙ line-of-row column empty refusals 1 n rows ∙ ap (λ (m : ℕ). codes (column (row m refusals))) next
+      column-row column empty refusals 1 n p ∙ ap (λ (m : ℕ). codes (column (row m refusals))) next
 
 abbrev pub name : Refusal → String
 name r = r.1
@@ -36,10 +45,14 @@ name r = r.1
 abbrev pub text : Refusal → String
 text r = r.2
 
-pub name-line : (n : ℕ) → line_at n (lines_of name) ≡ codes (name_of n)
-unfolding listed plain codes refusals name_of
-name-line = row_line name (λ n. refl) refl
+numbered : Numbered 1 refusals
+unfolding refusals
+numbered = search rules
 
-pub text-line : (n : ℕ) → line_at n (lines_of text) ≡ codes (text_of n)
-unfolding listed plain codes refusals text_of
-text-line = row_line text (λ n. refl) refl
+pub name-at : (n : ℕ) → get_or (texts_of name) n [] ≡ codes (name_of n)
+unfolding codes name_of
+name-at = text_at name (λ n. refl) numbered
+
+pub text-at : (n : ℕ) → get_or (texts_of text) n [] ≡ codes (text_of n)
+unfolding codes text_of
+text-at = text_at text (λ n. refl) numbered

@@ -1,3 +1,2 @@
 pub mod CString
 pub mod Refusals
-pub mod Lines

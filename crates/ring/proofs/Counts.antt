@@ -122,13 +122,12 @@ pub below_one : (n i : ℕ) → i < n → all_below n (i ∷ []) ≡ true
 unfolding all_below
 below_one n i h = both (ltb i n) true (lt-ltb i n h) refl
 
--- a longer front of a list has no slot less often
-pub times-front : (i k m : ℕ) (l : List ℕ) → k ≤ m → times i (take k l) ≤ times i (take m l)
+-- a front of a list has no slot more often
+pub times-front : (i k : ℕ) (l : List ℕ) → times i (take k l) ≤ times i l
 unfolding times
-times-front i zero m l h = omega arith
-times-front i (suc k) zero l h = absurd (omega arith)
-times-front i (suc k) (suc m) [] h = omega arith
-times-front i (suc k) (suc m) (x ∷ l) h = omega (arith, times-front i k m l (omega arith))
+times-front i zero l = omega arith
+times-front i (suc k) [] = omega arith
+times-front i (suc k) (x ∷ l) = omega (arith, times-front i k l)
 
 -- a slot at or past n is not in a queue of slots below n
 pub times-past : (n i : ℕ) (q : List ℕ) → n ≤ i → all_below n q ≡ true → times i q ≡ 0

@@ -114,6 +114,11 @@ module _ (m : SlotStates) where
   unfolding state_at in_masks pick
   state-none i h = none-set (member m.filling i) (member m.in_flight i) (member m.discarding i) h
 
+  -- a slot that is in one mask at most: it is in that of the Filling slots where that is its state
+  pub filling-single : (i : ℕ) → i < 256 → in_masks m i ≤ 1 → member m.filling i ≡ is_filling (state_at m i)
+  unfolding state_at in_masks pick
+  filling-single i h single = (one_set (member m.filling i) (member m.in_flight i) (member m.discarding i) (single)).filling
+
   -- no slot in two masks: they are the masks of their states
   pub masks-tabled : MasksFit m → ((i : ℕ) → i < 256 → in_masks m i ≤ 1) → m ≡ masks_of (state_at m)
   unfolding masks_of state_at in_masks pick

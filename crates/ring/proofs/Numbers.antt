@@ -1,6 +1,7 @@
 -- Laws of the slots 0..n-1 and of a table over them: how long they are and what stands in them; that each slot stands once in the queue 0..n-1,
 -- and that one store more in its places makes it one longer. By induction on the number of slots. Assumes nothing.
-use Rattle.std.proofs.Common.{◌≡◌, ℕ, zero, suc, ◌+◌, ◌-◌, ◌<◌, ◌≤◌, true, List, [], ◌∷◌, ◌++◌, length, get_or, drop, set, replicate, sym, refl, ap, ◌∙◌, ap₂, ⊎_elim, append-nil, add-zero, add-one, arith, length-append, drop-cons, get_or-append-add, ext_get_or}
+use Rattle.std.proofs.Common.{◌≡◌, ℕ, zero, suc, ◌+◌, ◌-◌, ◌<◌, ◌≤◌, true, List, [], ◌∷◌, ◌++◌, length, get_or, take, drop, set, replicate, sym, refl, ap, ◌∙◌, ap₂, ⊎_elim, append-nil, add-zero, add-one, arith, length-append, drop-cons, get_or-append-add, ext_get_or}
+use Rattle.std.proofs.lemmas.List.{take-replicate, drop-replicate}
 use lib.ListN.{length-replicate, get_or-append}
 use lib.Seq.{set_at, append_snoc, drop-length}
 use Rattle.ring.specs.Counts.{slot_numbers, table, times, all_below}
@@ -19,6 +20,14 @@ numbers-next i m h =
     rw left
     (set_at (slot_numbers i) 0 (replicate (m - (i + 1)) 0) i i (length-numbers i)
     ∙ rw add-one (sym (append_snoc (slot_numbers i) i (replicate (m - suc i) 0))))
+
+-- the first n of m places before a slot is written, and all m once the n are
+pub numbers-none : (n m : ℕ) → n ≤ m → take n (replicate m 0) ≡ slot_numbers 0 ++ replicate (n - 0) 0
+unfolding slot_numbers
+numbers-none n m h = let e : n - 0 ≡ n = omega arith in rw e (take-replicate n m 0 h)
+
+pub numbers-all : (n m : ℕ) → (slot_numbers n ++ replicate (n - n) 0) ++ drop n (replicate m 0) ≡ slot_numbers n ++ replicate (m - n) 0
+numbers-all n m = let e : n - n ≡ 0 = omega arith in rw (e, append-nil, drop-replicate)
 
 -- a slot at or past n is not there
 pub numbers-without : (i n : ℕ) → n ≤ i → times i (slot_numbers n) ≡ 0

@@ -1,40 +1,10 @@
 -- Laws of the queue: what taking from its front and adding at its end do to the places that hold it.
 -- By the library's laws of `take`, `drop` and `set`. Assumes nothing.
-use Rattle.std.proofs.Common.{◌≡◌, ℕ, zero, suc, ◌+◌, ◌-◌, ◌<◌, ◌≤◌, List, [], ◌∷◌, ◌++◌, length, get_or, take, drop, set, sym, ap, ◌∙◌, add-one, arith, length-append, length-drop, take-append-drop, length-take-le, get_or-drop, drop-cons, take-suc, get_or-append-add, w8, Fits}
-use lib.Seq.{set_at, set_split, append_snoc, take-append_seam}
+use Rattle.std.proofs.Common.{◌≡◌, ℕ, zero, suc, ◌+◌, ◌-◌, ◌<◌, ◌≤◌, List, [], ◌∷◌, ◌++◌, length, get_or, take, drop, set, zero-add, add-one, arith, length-append, length-drop, take-append-drop, length-take-le}
+use Rattle.std.specs.List.{copy_within}
+use lib.Seq.{set_split, append_snoc, take-append_seam}
 use Rattle.ring.specs.declared.Ring.{Ring}
 use Rattle.ring.specs.Parts.{queue_of, with_queue, with_out}
-
--- A number that fits a byte is below 256.
-pub byte-below : {x : ℕ} → Fits w8 x → x < 256
-byte-below f = f.fits
-
--- The first `count` places hold what stood in the next.
-abbrev pub moved_down : List ℕ → ℕ → List ℕ
-moved_down l count = take count (drop 1 l) ++ drop count l
-
-module _ (l : List ℕ) (k : ℕ) (h : k + 1 < length l) where
-  front_long : length (take k (drop 1 l)) ≡ k
-  front_long = length-take-le k (drop 1 l) (rw length-drop (omega arith))
-
-  next-value : get_or (moved_down l k) (k + 1) 0 ≡ get_or l (1 + k) 0
-  next-value =
-      ap (λ (n : ℕ). get_or (moved_down l k) (n + 1) 0) (sym front_long) ∙
-      get_or-append-add (take k (drop 1 l)) (drop k l) 1 0 ∙
-      get_or-drop k l 1 0 ∙
-      ap (λ (n : ℕ). get_or l n 0) (omega arith)
-
-  next-places : moved_down l (k + 1) ≡ take k (drop 1 l) ++ get_or l (1 + k) 0 ∷ drop (suc k) l
-  next-places =
-      let room : k < length (drop 1 l) = rw length-drop (omega arith) in
-      rw (add-one, take-suc (drop 1 l) k 0, get_or-drop 1 l k 0) (append_snoc (take k (drop 1 l)) (get_or l (1 + k) 0) (drop (suc k) l))
-
-  pub moved-next : set (moved_down l k) k (get_or (moved_down l k) (k + 1) 0) ≡ moved_down l (k + 1)
-  moved-next =
-      rw next-value
-      (ap (λ (d : List ℕ). set (take k (drop 1 l) ++ d) k (get_or l (1 + k) 0)) (drop-cons l k 0 (omega arith)) ∙
-      set_at (take k (drop 1 l)) (get_or l k 0) (drop (suc k) l) (get_or l (1 + k) 0) k front_long ∙
-      sym next-places)
 
 -- A queue of at least one: its front, and the rest.
 pub front_rest : (l : List ℕ) (n : ℕ) → 0 < n → 0 < length l → take n l ≡ get_or l 0 0 ∷ take (n - 1) (drop 1 l)
@@ -45,6 +15,10 @@ front_rest (x ∷ l) (suc n) h w = let e : suc n - 1 ≡ n = omega arith in rw e
 -- The rest behind the front, and how long it is.
 pub rest-long : (l : List ℕ) (n : ℕ) → n ≤ length l → length (take (n - 1) (drop 1 l)) ≡ n - 1
 rest-long l n h = length-take-le (n - 1) (drop 1 l) (rw length-drop (omega arith))
+
+-- The places behind the front moved down by one: they hold the rest, and behind it what stood there.
+pub moved-down : (l : List ℕ) (n : ℕ) → copy_within l 1 n 0 ≡ take (n - 1) (drop 1 l) ++ drop (n - 1) l
+moved-down l n = rw zero-add
 
 -- One more at the queue's end: how long it is, and that it is written behind it.
 pub more-long : (l : List ℕ) (n i : ℕ) → n ≤ length l → length (take n l ++ (i ∷ [])) ≡ n + 1

@@ -1,15 +1,14 @@
 -- The walk of the queue, an iteration at a time: what it adds, and which fact fails where it gives up. It starts with the Filling slots as seen; a slot
 -- is seen where it is Filling or stands in the front of the queue that was walked. Assumes nothing.
-use Rattle.std.proofs.Common.{◌≡◌, ℕ, zero, suc, ◌+◌, ◌*◌, ◌/◌, ◌%◌, ◌^◌, ◌<◌, ◌≤◌, Bool, true, false, not, ◌&&◌, ◌||◌, eqb, ltb, leb, List, [], ◌∷◌, length, get_or, take, set, sym, refl, ap, ◌∙◌, true≢false, zero-add, add-one, arith, length-take-le, get_or-set_other, get_or-take, take-suc, get_or-set_same, eq-eqb, ne_eqb, le-leb, leb-true}
+use Rattle.std.proofs.Common.{◌≡◌, ℕ, zero, suc, ◌+◌, ◌*◌, ◌/◌, ◌%◌, ◌^◌, ◌<◌, ◌≤◌, Bool, true, false, not, ◌&&◌, ◌||◌, eqb, ltb, leb, List, Some, None, [], ◌∷◌, ◌++◌, length, get_or, take, set, sym, refl, ap, ◌∙◌, true≢false, zero-add, add-one, arith, get_or-set_other, take-suc, get_or-set_same, eq-eqb, ne_eqb, le-leb, leb-true}
 use native.Mathlib.Decide.{ℕ_discrete}
-use mathlib.Core.Bool.{false≢true}
 use lib.Bits.{bit_and, bit_or, or_lt}
 use Rattle.mask.specs.declared.Mask.{Mask}
 use Rattle.mask.specs.Masks.{member}
 use Rattle.mask.proofs.Masks.{Fits, mask-ext, mask_is, mask_in, seen-bit, seen_more}
 use Rattle.ring.specs.Slots.{one}
 use Rattle.ring.specs.Counts.{times, all_below}
-use Rattle.ring.specs.Tests.{times_home, home_once, home_mask, HomeOf}
+use Rattle.ring.specs.Tests.{times_home, home_once, home_mask, home_of}
 use Rattle.ring.proofs.Truth.{first, one_at_most, refuted, second}
 use Rattle.ring.proofs.Counts.{every-at, every_of, times-append, times-same, times-other, times-front, below-append, below_at, below_one}
 
@@ -29,68 +28,62 @@ none-fits filling f (suc (suc zero)) h = f.c
 none-fits filling f (suc (suc (suc zero))) h = f.d
 none-fits filling f (suc (suc (suc (suc j)))) h = absurd (omega arith)
 
--- What an iteration starts from: the queue's entries before place k are below n, and the slots at home so far are seen.
-pub record Walking (n : ℕ) (filling : Mask) (len : ℕ) (free : List ℕ) (k : ℕ) (seen : List ℕ) : Type 0 where
-  pub short : len ≤ 256
-  pub places : length free ≡ 256
-  pub inside : k < len
+-- What an iteration starts from: the queue's entries before place k are below n, the slots at home so far are seen, and the entry is this one.
+pub record Walking (n : ℕ) (filling : Mask) (queue : List ℕ) (k : ℕ) (seen : List ℕ) (slot : ℕ) : Type 0 where
+  pub inside : k < length queue
   pub words : length seen ≡ 4
   pub fits : (j : ℕ) → j < 4 → get_or seen j 0 < 2 ^ 64
-  pub byte : get_or free k 0 < 256
-  pub below : all_below n (take k free) ≡ true
-  pub marked : Seen filling (take k free) seen
+  pub entry : slot ≡ get_or queue k 0
+  pub byte : slot < 256
+  pub below : all_below n (take k queue) ≡ true
+  pub marked : Seen filling (take k queue) seen
 
 -- a fact fails
-not-once : (n : ℕ) (filling : Mask) (len : ℕ) (queue : List ℕ) (slots : Mask) → (home_once n filling len queue ≡ true → ⊥) → HomeOf n filling len queue (record { slots = slots; once = false })
-not-once n filling len queue slots f = record { once = sym (refuted _ f); slots = λ e. absurd (false≢true e) }
+not-once : (n : ℕ) (filling : Mask) (len : ℕ) (queue : List ℕ) → (home_once n filling len queue ≡ true → ⊥) → None ≡ home_of n filling len queue
+unfolding home_of
+not-once n filling len queue f = rw (refuted _ f)
 
 -- the queue is longer than its places
-pub too_long : (n : ℕ) (filling : Mask) (len : ℕ) (queue : List ℕ) (slots : Mask) → 256 < len → HomeOf n filling len queue (record { slots = slots; once = false })
+pub too_long : (n : ℕ) (filling : Mask) (len : ℕ) (queue : List ℕ) → 256 < len → None ≡ home_of n filling len queue
 unfolding home_once
-too_long n filling len queue slots h =
-    not-once n filling len queue slots
+too_long n filling len queue h =
+    not-once n filling len queue
     (λ p. omega (arith, leb-true len 256 (first (leb len 256) (all_below n queue) (first (leb len 256 && all_below n queue) _ p))))
 
-module _ {n : ℕ} {filling : Mask} {len : ℕ} {free : List ℕ} {k : ℕ} {seen : List ℕ} (w : Walking n filling len free k seen) where
-  slot : ℕ
-  slot = get_or free k 0
+module _ {n : ℕ} {filling : Mask} {queue : List ℕ} {k : ℕ} {seen : List ℕ} {slot : ℕ} (w : Walking n filling queue k seen slot) where
+  front-next : take (k + 1) queue ≡ take k queue ++ (slot ∷ [])
+  front-next = rw (add-one, take-suc queue k 0 w.inside, w.entry)
 
-  room : k < length free
-  room = omega (arith, w.inside, w.short, w.places)
-
-  times-next : (i : ℕ) → times i (take (k + 1) free) ≡ times i (take k free) + times i (slot ∷ [])
-  unfolding slot
-  times-next i = rw (add-one, take-suc free k 0 room, times-append)
+  times-next : (i : ℕ) → times i (take (k + 1) queue) ≡ times i (take k queue) + times i (slot ∷ [])
+  times-next i = rw (front-next, times-append)
 
   -- the next entry is a slot of the ring
-  pub below_next : get_or free k 0 < n → all_below n (take (k + 1) free) ≡ true
-  below_next h = rw (add-one, take-suc free k 0 room) (below-append n _ _ w.below (below_one n _ h))
+  pub below_next : slot < n → all_below n (take (k + 1) queue) ≡ true
+  below_next h = rw front-next (below-append n _ _ w.below (below_one n _ h))
 
   -- the bit that the code looks at
   abbrev bit : ℕ
-  bit = (1 * 2 ^ (get_or free k 0 % 64)) % 2 ^ 64
+  bit = (1 * 2 ^ (slot % 64)) % 2 ^ 64
 
   abbrev was : ℕ
-  was = get_or seen (get_or free k 0 / 64) 0
+  was = get_or seen (slot / 64) 0
 
   new : bit_and was bit ≡ 0 → member (mask_in seen) slot ≡ false
-  unfolding slot
-  new p = sym (not-not (member (mask_in seen) (get_or free k 0))) ∙ ap not (sym (seen-bit seen (get_or free k 0) w.words w.byte) ∙ eq-eqb _ _ p)
+  new p = sym (not-not (member (mask_in seen) slot)) ∙ ap not (sym (seen-bit seen slot w.words w.byte) ∙ eq-eqb _ _ p)
     where
       not-not : (b : Bool) → not (not b) ≡ b
       not-not true = refl
       not-not false = refl
 
   -- and it is new
-  pub seen_next :
-      bit_and was bit ≡ 0 → Seen filling (take (k + 1) free) (set seen (get_or free k 0 / 64) (bit_or was bit))
-  unfolding times_home one slot
+  pub seen_next : bit_and was bit ≡ 0 → Seen filling (take (k + 1) queue) (set seen (slot / 64) (bit_or was bit))
+  unfolding times_home one
   seen_next p i b = go (ℕ_discrete i slot)
     where
       more : member (mask_in (set seen (slot / 64) (bit_or was bit))) i ≡ (member (mask_in seen) i || eqb slot i)
       more = seen_more seen slot w.words w.byte w.fits i b
 
-      go : Dec (i ≡ slot) → times i (take (k + 1) free) + one (member filling i) ≡ one (member (mask_in (set seen (slot / 64) (bit_or was bit))) i)
+      go : Dec (i ≡ slot) → times i (take (k + 1) queue) + one (member filling i) ≡ one (member (mask_in (set seen (slot / 64) (bit_or was bit))) i)
       go (yes e) =
           let old : member (mask_in seen) i ≡ false = ap (member (mask_in seen)) e ∙ new p in
           let once : times i (slot ∷ []) ≡ 1 = rw e (times-same slot) in
@@ -106,30 +99,29 @@ module _ {n : ℕ} {filling : Mask} {len : ℕ} {free : List ℕ} {k : ℕ} {see
           or-none false = refl
 
   -- an entry at or past n
-  pub stray : (slots : Mask) → n ≤ get_or free k 0 → HomeOf n filling len (take len free) (record { slots = slots; once = false })
+  pub stray : (len : ℕ) → n ≤ slot → None ≡ home_of n filling len queue
   unfolding home_once
-  stray slots p =
-      not-once n filling len (take len free) slots
+  stray len p =
+      not-once n filling len queue
       (λ t. omega (
         arith,
-        below_at n (take len free) (second (leb len 256) (all_below n (take len free)) (first (leb len 256 && all_below n (take len free)) _ t)) k
-            (omega (arith, w.inside, length-take-le len free (omega (arith, w.short, w.places)))),
-        get_or-take len free k 0 w.inside,
+        w.entry,
+        below_at n queue (second (leb len 256) (all_below n queue) (first (leb len 256 && all_below n queue) _ t)) k w.inside,
       ))
 
   -- an entry that was seen before
-  pub twice : (slots : Mask) → (bit_and was bit ≡ 0 → ⊥) → HomeOf n filling len (take len free) (record { slots = slots; once = false })
-  unfolding home_once times_home slot one
-  twice slots p =
+  pub twice : (len : ℕ) → (bit_and was bit ≡ 0 → ⊥) → None ≡ home_of n filling len queue
+  unfolding home_once times_home one
+  twice len p =
       let old : member (mask_in seen) slot ≡ true = met (member (mask_in seen) slot) (sym (seen-bit seen slot w.words w.byte)) in
-      not-once n filling len (take len free) slots
+      not-once n filling len queue
       (λ t. omega (
         arith,
-        leb-true (times_home filling (take len free) slot) 1 (every-at (λ i. leb (times_home filling (take len free) i) 1) 256 (second (leb len 256 && all_below n (take len free)) _ t) slot w.byte),
+        leb-true (times_home filling queue slot) 1 (every-at (λ i. leb (times_home filling queue i) 1) 256 (second (leb len 256 && all_below n queue) _ t) slot w.byte),
         w.marked slot w.byte ∙ ap one old,
         times-same slot,
         times-next slot,
-        times-front slot (k + 1) len free (omega (arith, w.inside)),
+        times-front slot (k + 1) queue,
       ))
     where
       met : (b : Bool) → not b ≡ eqb (bit_and was bit) 0 → b ≡ true
@@ -137,34 +129,29 @@ module _ {n : ℕ} {filling : Mask} {len : ℕ} {free : List ℕ} {k : ℕ} {see
       met false e = absurd (true≢false (e ∙ ne_eqb _ _ p))
 
   -- its word fits
-  pub fits_next : (j : ℕ) → j < 4 → get_or (set seen (get_or free k 0 / 64) (bit_or was bit)) j 0 < 2 ^ 64
-  fits_next j h = go (ℕ_discrete j (get_or free k 0 / 64))
+  pub fits_next : (j : ℕ) → j < 4 → get_or (set seen (slot / 64) (bit_or was bit)) j 0 < 2 ^ 64
+  fits_next j h = go (ℕ_discrete j (slot / 64))
     where
-      go : Dec (j ≡ get_or free k 0 / 64) → get_or (set seen (get_or free k 0 / 64) (bit_or was bit)) j 0 < 2 ^ 64
+      go : Dec (j ≡ slot / 64) → get_or (set seen (slot / 64) (bit_or was bit)) j 0 < 2 ^ 64
       go (yes e) =
-          let inside : get_or free k 0 / 64 < 4 = omega arith in
-          rw (e, get_or-set_same seen (get_or free k 0 / 64) (bit_or was bit) 0 (rw w.words inside))
-          (or_lt 64 was bit (w.fits (get_or free k 0 / 64) inside) (omega arith))
-      go (no e) = rw (get_or-set_other seen (get_or free k 0 / 64) j (bit_or was bit) 0 e) (w.fits j h)
+          let inside : slot / 64 < 4 = omega (arith, w.byte) in
+          rw (e, get_or-set_same seen (slot / 64) (bit_or was bit) 0 (rw w.words inside))
+          (or_lt 64 was bit (w.fits (slot / 64) inside) (omega arith))
+      go (no e) = rw (get_or-set_other seen (slot / 64) j (bit_or was bit) 0 e) (w.fits j h)
 
 -- the walk is over
-module _ (n : ℕ) (filling : Mask) (len : ℕ) (free : List ℕ) (seen : List ℕ) where
+module _ (n : ℕ) (filling : Mask) (len : ℕ) (queue : List ℕ) (seen : List ℕ) where
   pub walked :
-      len ≤ 256 → (k : ℕ) → k ≡ len → ((j : ℕ) → j < 4 → get_or seen j 0 < 2 ^ 64) → all_below n (take k free) ≡ true → Seen filling (take k free) seen →
-      HomeOf n filling len (take len free) (record { slots = mask_in seen; once = true })
-  unfolding home_once home_mask one
-  walked short k e fits below all =
-      record {
-        once =
-            sym
-            (rw (
-              le-leb len 256 short,
-              ← e,
-              below,
-              every_of (λ i. leb (times_home filling (take k free) i) 1) 256 (λ i h. le-leb (times_home filling (take k free) i) 1 (omega (arith, all i h, one_at_most (member (mask_in seen) i)))),
-            ));
-        slots = λ t. mask_is (mask_in seen) words ∙ rw (← e) (mask-ext _ _ (λ i h. is_home (member (mask_in seen) i) ∙ ap (ltb 0) (sym (all i h))));
-      }
+      len ≤ 256 → ((j : ℕ) → j < 4 → get_or seen j 0 < 2 ^ 64) → all_below n queue ≡ true → Seen filling queue seen →
+      Some (mask_in seen) ≡ home_of n filling len queue
+  unfolding home_of home_once home_mask one
+  walked short fits below all =
+      rw (
+        le-leb len 256 short,
+        below,
+        every_of (λ i. leb (times_home filling queue i) 1) 256 (λ i h. le-leb (times_home filling queue i) 1 (omega (arith, all i h, one_at_most (member (mask_in seen) i)))),
+      )
+      (ap Some (mask_is (mask_in seen) words ∙ mask-ext _ _ (λ i h. is_home (member (mask_in seen) i) ∙ ap (ltb 0) (sym (all i h)))))
     where
       words : Fits (mask_in seen)
       words = record { a = fits 0 (omega arith); b = fits 1 (omega arith); c = fits 2 (omega arith); d = fits 3 (omega arith) }

@@ -1,16 +1,15 @@
 -- The moves of a slot: from the queue into the hand, to the kernel, and back.
-use Rattle.std.specs.Prelude.{ℕ, ◌+◌, ◌-◌, List, [], ◌∷◌, ◌++◌}
+use Rattle.std.specs.Prelude.{ℕ, ◌+◌, ◌-◌, List, [], ◌∷◌, ◌++◌, Some, None}
 use Rattle.ring.specs.declared.SlotState.TheVariants.{Free, Filling, InFlight}
 use Rattle.ring.specs.declared.Ring.{Ring}
-use Rattle.ring.specs.declared.Found.TheVariants.{Slot, Nothing}
 use Rattle.ring.specs.declared.Taken.{Taken}
 use Rattle.ring.specs.Masks.{masks_of, stopped}
 use Rattle.ring.specs.Parts.{queue_of, state_of, with_queue, with_masks, with_state, with_out}
 
 -- From an empty queue nothing is taken; else the front slot leaves it and is Filling.
 unfoldable pub taken_from : Ring → List ℕ → Taken
-taken_from ring [] = record { ring = ring; slot = Nothing }
-taken_from ring (slot ∷ rest) = record { ring = with_state (with_queue ring rest) slot Filling; slot = Slot slot }
+taken_from ring [] = record { ring = ring; slot = None }
+taken_from ring (slot ∷ rest) = record { ring = with_state (with_queue ring rest) slot Filling; slot = Some slot }
 
 -- The front slot taken.
 unfoldable pub taken : Ring → Taken

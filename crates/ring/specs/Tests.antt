@@ -1,12 +1,12 @@
 -- The ring's part of refusal 8's test, as the calls make it: by whole masks, in pieces. Joined they are sound_ring (proofs/Joined). Only
 -- internal functions promise these.
-use Rattle.std.specs.Prelude.{◌≡◌, ℕ, ◌+◌, ◌-◌, ◌%◌, ◌^◌, Bool, true, not, ◌&&◌, ◌||◌, ltb, leb, List, ◌==◌, nat_le, nat_lt}
+use Rattle.std.specs.Prelude.{ℕ, ◌+◌, ◌-◌, ◌%◌, ◌^◌, Bool, false, not, ◌&&◌, ◌||◌, cond, ltb, leb}
+use Rattle.std.specs.Prelude.{List, Option, Some, None, ◌==◌, nat_le, nat_lt}
 use Rattle.std.specs.Bool.{beq}
 use Rattle.mask.specs.declared.Mask.{Mask}
 use Rattle.mask.specs.Masks.{member, mask_of, is_empty}
 use Rattle.ring.specs.declared.Hand.{Hand}
 use Rattle.ring.specs.declared.Hand.TheVariants.{Idle, Held, Sending, Silent}
-use Rattle.ring.specs.declared.Home.{Home}
 use Rattle.ring.specs.declared.Ring.{Ring}
 use Rattle.ring.specs.Slots.{one, holds, hand_within}
 use Rattle.ring.specs.Counts.{every_slot, times, all_below}
@@ -29,10 +29,9 @@ home_once n filling len queue =
 unfoldable pub home_mask : Mask → List ℕ → Mask
 home_mask filling queue = mask_of (λ i. ltb 0 (times_home filling queue i))
 
--- What a walk of the queue finds: whether no slot is at home twice and, if so, which are at home.
-pub record HomeOf (n : ℕ) (filling : Mask) (len : ℕ) (queue : List ℕ) (home : Home) : Type 0 where
-  pub once : home.once ≡ home_once n filling len queue
-  pub slots : home.once ≡ true → home.slots ≡ home_mask filling queue
+-- What a walk of the queue finds: the slots at home, if no slot is there twice.
+unfoldable pub home_of : ℕ → Mask → ℕ → List ℕ → Option Mask
+home_of n filling len queue = cond (home_once n filling len queue) (Some (home_mask filling queue)) None
 
 -- Of a slot by whether it is at home, InFlight, Discarding and below n: it is both InFlight and Discarding; or below n, and both or neither
 -- of at home and out; or at n or above, and one of these.
@@ -40,13 +39,14 @@ unfoldable pub both_or_neither : Bool → Bool → Bool → Bool → Bool
 both_or_neither home flying discarding below =
     (flying && discarding) || not (beq (not (beq home (flying || discarding))) below)
 
-unfoldable pub misplaced : ℕ → Ring → Home → ℕ → Bool
+unfoldable pub misplaced : ℕ → Ring → Mask → ℕ → Bool
 misplaced n ring home i =
-    both_or_neither (member home.slots i) (member ring.states.in_flight i) (member ring.states.discarding i) (nat_lt i n)
+    both_or_neither (member home i) (member ring.states.in_flight i) (member ring.states.discarding i) (nat_lt i n)
 
 -- No slot is at home twice, and none is misplaced.
-unfoldable pub out_test : ℕ → Ring → Home → Bool
-out_test n ring home = home.once && is_empty (mask_of (misplaced n ring home))
+unfoldable pub out_test : ℕ → Ring → Option Mask → Bool
+out_test n ring (Some home) = is_empty (mask_of (misplaced n ring home))
+out_test n ring None = false
 
 -- How many slots the hand has.
 unfoldable pub in_hand : Hand → ℕ

@@ -5,8 +5,7 @@
 
 mod pieces;
 
-ghost use Rattle.std.specs.Prelude.{◌≡◌, ℕ, ◌-◌, ◌<◌, ◌≤◌, true, List, [], ◌∷◌, ◌++◌};
-ghost use Rattle.std.specs.Prelude.{take, drop, replicate, slice_index};
+ghost use Rattle.std.specs.Prelude.{◌≡◌, ℕ, ◌-◌, ◌<◌, ◌≤◌, true, List, [], ◌∷◌, ◌++◌, replicate};
 ghost use Rattle.mask.specs.Masks.{mask_of};
 ghost use Rattle.ring.specs.declared.SlotState.{SlotState};
 ghost use Rattle.ring.specs.Slots.{is_discarding, is_out, holds, hand_within};
@@ -53,83 +52,50 @@ pub enum Hand {
     Silent(usize, usize),
 }
 
-// A slot, if there is one: taken from the queue, or named by an address.
-#[derive(Clone, Copy)]
-pub enum Found {
-    Slot(usize),
-    Nothing,
-}
-
 // What taking the front slot leaves and finds.
 #[derive(Clone, Copy)]
 pub struct Taken {
     pub ring: Ring,
-    pub slot: Found,
-}
-
-// A queue's front, and the places of the rest.
-#[derive(Clone, Copy)]
-struct Moved {
-    front: u8,
-    rest: [u8; 256],
-}
-
-// The slots at home, in the queue or Filling, if no slot is there twice.
-#[derive(Clone, Copy)]
-pub struct Home {
-    pub slots: Mask,
-    pub once: bool,
+    pub slot: Option<usize>,
 }
 
 impl Hand {
     // The hand's slot as a mask; none where it is Idle.
+    #[tactic(auto, unfolding(crate::specs::Slots::holds))]
     pub fn mask(self) -> Mask
         ensures { result ≡ mask_of (holds self) }
     {
         match self {
             Hand::Idle => Mask::none(),
-            Hand::Held(slot) => Mask::only(slot),
-            Hand::Sending(slot) => Mask::only(slot),
-            Hand::Silent(slot, _) => Mask::only(slot),
+            Hand::Held(slot) | Hand::Sending(slot) | Hand::Silent(slot, _) => Mask::only(slot),
         }
     }
 
     // How many slots it has.
+    #[tactic(auto, unfolding(crate::specs::Tests::in_hand))]
     pub fn count(self) -> usize
         ensures { result ≡ in_hand self }
     {
         match self {
             Hand::Idle => 0,
-            Hand::Held(_) => 1,
-            Hand::Sending(_) => 1,
-            Hand::Silent(_, _) => 1,
+            Hand::Held(_) | Hand::Sending(_) | Hand::Silent(_, _) => 1,
         }
     }
 
     // Whether the hand's slot is one of n, and what is left of a silent chain 0 or 1.
+    #[tactic(auto, unfolding(crate::specs::Slots::hand_within))]
     pub fn within(self, n: usize) -> bool
         ensures { result ≡ hand_within n self }
     {
         match self {
             Hand::Idle => true,
-            Hand::Held(slot) => slot < n,
-            Hand::Sending(slot) => slot < n,
+            Hand::Held(slot) | Hand::Sending(slot) => slot < n,
             Hand::Silent(slot, left) => slot < n && left <= 1,
         }
     }
 }
 
 impl SlotStates {
-    pub fn new(filling: Mask, in_flight: Mask, discarding: Mask) -> SlotStates
-        ensures { result ≡ record { filling = filling; in_flight = in_flight; discarding = discarding } }
-    {
-        SlotStates {
-            filling,
-            in_flight,
-            discarding,
-        }
-    }
-
     // Every slot Free.
     pub fn all_free() -> SlotStates
         ensures { result ≡ masks_of (λ i. SlotState.Free) }
@@ -142,70 +108,47 @@ impl SlotStates {
     }
 }
 
-// Internal: the front leaves, and the first count places each get what stands in the next. The front is read from the
-// array that the loop writes: read from the ring, it would have the compiler copy the ring in two pieces each time.
-fn moved_down(mut free: [u8; 256], count: usize) -> Moved
-    requires { count < 256 }
-    ensures { result ≡ record { front = slice_index free 0; rest = take count (drop 1 free) ++ drop count free } }
-{
-    let front = free[0];
-    for k in 0..count {
-        free[k] = free[k + 1];
-    }
-    Moved { front, rest: free }
-}
-
-// Internal: an empty queue's places.
-fn no_slots() -> [u8; 256]
-    ensures { result ≡ replicate 256 0 }
-{
-    [0; 256]
-}
-
 // Internal: the queue 0..n-1 in its places.
 fn slot_numbers(n: usize) -> [u8; 256]
     requires { n ≤ 256 }
     ensures { result ≡ slot_numbers n ++ replicate (256 - n) 0 }
 {
-    let mut free = no_slots();
-    for i in 0..n {
-        free[i] = i as u8;
+    let mut free = [0; 256];
+    for (i, place) in free[..n].iter_mut().enumerate() {
+        *place = i as u8;
     }
     free
 }
 
 impl Ring {
     // Internal: a ring of n slots, all of them in the queue.
+    #[tactic(auto, unfolding(crate::specs::Parts::free_ring))]
     pub fn new(n: usize) -> Ring
         requires { n ≤ 256 }
         ensures { result ≡ free_ring n }
     {
-        let states = SlotStates::all_free();
-        let free = slot_numbers(n);
         Ring {
-            states,
-            free,
+            states: SlotStates::all_free(),
+            free: slot_numbers(n),
             free_len: n,
             in_flight: 0,
         }
     }
 
     // Internal: whether slot i is Discarding.
-    pub fn is_discarding(self, i: usize) -> bool
-        requires { Tabled self × (i < 256) }
-        ensures { result ≡ is_discarding (state_of self i) }
+    pub fn is_discarding(&self, i: usize) -> bool
+        requires { Tabled self.now × (i < 256) }
+        ensures { result ≡ is_discarding (state_of self.now i) }
     {
-        let states = self.states;
-        states.discarding.has(i)
+        self.states.discarding.has(i)
     }
 
     // Internal: whether slot i is out: InFlight or Discarding.
-    pub fn is_out(self, i: usize) -> bool
-        requires { Tabled self × (i < 256) }
-        ensures { result ≡ is_out (state_of self i) }
+    pub fn is_out(&self, i: usize) -> bool
+        requires { Tabled self.now × (i < 256) }
+        ensures { result ≡ is_out (state_of self.now i) }
     {
-        let states = self.states;
-        states.in_flight.union(states.discarding).has(i)
+        self.states.in_flight.union(self.states.discarding).has(i)
     }
 
     // Internal: takes the front slot, if there is one, and marks it Filling.
@@ -218,22 +161,19 @@ impl Ring {
         if len == 0 {
             return Taken {
                 ring: self,
-                slot: Found::Nothing,
+                slot: None,
             };
         }
-        let left = len - 1;
-        let free = self.free;
-        let moved = moved_down(free, left);
-        let slot = moved.front as usize;
-        let rest = moved.rest;
-        self.free = rest;
-        self.free_len = left;
-        let was = self.states;
-        let states = SlotStates::new(was.filling.with(slot), was.in_flight, was.discarding);
-        self.states = states;
+        // Read and moved in a copy: in the ring, they would have the compiler split or store all of it.
+        let mut free = self.free;
+        let slot = usize::from(free[0]);
+        free.copy_within(1..len, 0);
+        self.free = free;
+        self.free_len = len - 1;
+        self.states.filling = self.states.filling.with(slot);
         Taken {
             ring: self,
-            slot: Found::Slot(slot),
+            slot: Some(slot),
         }
     }
 
@@ -242,9 +182,10 @@ impl Ring {
         requires { (i < 256) × (self.free_len < 256) }
         ensures { result ≡ with_queue self (queue_of self ++ (i ∷ [])) }
     {
-        let len = self.free_len;
-        self.free[len] = i as u8;
-        self.free_len = len + 1;
+        let mut free = self.free;
+        free[self.free_len] = i as u8;
+        self.free = free;
+        self.free_len += 1;
         self
     }
 
@@ -253,9 +194,7 @@ impl Ring {
         requires { (i < 256) × (self.free_len < 256) × Tabled self × (state_of self i ≡ SlotState.Filling) }
         ensures { result ≡ returned self i }
     {
-        let was = self.states;
-        let states = SlotStates::new(was.filling.without(i), was.in_flight, was.discarding);
-        self.states = states;
+        self.states.filling = self.states.filling.without(i);
         self.push_free(i)
     }
 
@@ -265,13 +204,8 @@ impl Ring {
         ensures { result ≡ marked_in_flight self i }
     {
         self.in_flight += 1;
-        let was = self.states;
-        let states = SlotStates::new(
-            was.filling.without(i),
-            was.in_flight.with(i),
-            was.discarding,
-        );
-        self.states = states;
+        self.states.filling = self.states.filling.without(i);
+        self.states.in_flight = self.states.in_flight.with(i);
         self
     }
 
@@ -280,10 +214,8 @@ impl Ring {
         requires { Tabled self }
         ensures { result ≡ discarded self }
     {
-        let was = self.states;
-        let none = Mask::none();
-        let states = SlotStates::new(was.filling, none, was.discarding.union(was.in_flight));
-        self.states = states;
+        self.states.discarding = self.states.discarding.union(self.states.in_flight);
+        self.states.in_flight = Mask::none();
         self
     }
 
@@ -294,13 +226,8 @@ impl Ring {
         ensures { result ≡ completed self i }
     {
         self.in_flight -= 1;
-        let was = self.states;
-        let states = SlotStates::new(
-            was.filling,
-            was.in_flight.without(i),
-            was.discarding.without(i),
-        );
-        self.states = states;
+        self.states.in_flight = self.states.in_flight.without(i);
+        self.states.discarding = self.states.discarding.without(i);
         self.push_free(i)
     }
 }

@@ -1,94 +1,80 @@
-// Refusal 8's test of the ring and the hand, whatever they hold, in pieces: a call joins them itself, so that the
-// compiler need not store the record for a test that is a function of its own (docs/PERFORMANCE.md).
-ghost use Rattle.std.specs.Prelude.{◌≡◌, take};
+// Refusal 8's test of the ring and the hand, whatever they hold.
+ghost use Rattle.std.specs.Prelude.{◌≡◌, ◌≤◌, length};
 ghost use Rattle.ring.specs.Parts.{queue_of};
 ghost use Rattle.ring.specs.Sound.{sound_ring};
-ghost use Rattle.ring.specs.Tests.{hand_test, HomeOf, out_test, count_test};
+ghost use Rattle.ring.specs.Tests.{hand_test, home_of, out_test, count_test};
 
-use crate::{Hand, Home, Ring};
+use crate::{Hand, Ring};
 use mask::Mask;
 
 // Internal: walks the queue from the slots that are Filling. A slot that was met before is there twice.
-fn walk_queue(start: Mask, free: [u8; 256], len: usize, n: usize) -> Home
-    ensures { HomeOf n start len (take len free) result }
+fn walk_queue(start: Mask, queue: &[u8], n: usize) -> Option<Mask>
+    requires { length queue.now ≤ 256 }
+    ensures { result ≡ home_of n start (length queue.now) queue.now }
 {
-    if 256 < len {
-        return Home {
-            slots: start,
-            once: false,
-        };
-    }
     let mut seen = [start.a, start.b, start.c, start.d];
-    for k in 0..len {
-        let slot = free[k] as usize;
+    for &place in queue {
+        let slot = usize::from(place);
         let bit = 1u64 << (slot % 64);
         let was = seen[slot / 64];
-        if n <= slot {
-            return Home {
-                slots: start,
-                once: false,
-            };
-        }
-        if was & bit != 0 {
-            return Home {
-                slots: start,
-                once: false,
-            };
+        if n <= slot || was & bit != 0 {
+            return None;
         }
         seen[slot / 64] = was | bit;
     }
-    Home {
-        slots: Mask {
-            a: seen[0],
-            b: seen[1],
-            c: seen[2],
-            d: seen[3],
-        },
-        once: true,
-    }
+    let [a, b, c, d] = seen;
+    Some(Mask { a, b, c, d })
 }
 
 impl Ring {
     // The hand's slot is the only Filling one, none when Idle.
-    pub fn hand_sound(self, n: usize, hand: Hand) -> bool
-        ensures { result ≡ hand_test n self hand }
+    fn hand_sound(&self, n: usize, hand: Hand) -> bool
+        ensures { result ≡ hand_test n self.now hand }
     {
         let filling = self.states.filling;
         hand.within(n) && filling.symmetric_difference(hand.mask()).is_empty()
     }
 
-    // The slots at home.
-    pub fn home(self, n: usize) -> Home
-        ensures { HomeOf n self.states.filling self.free_len (queue_of self) result }
+    // The slots at home, in the queue or Filling; None where one is there twice.
+    #[tactic(auto, using(crate::proofs::Walk::too_long), unfolding(crate::specs::Parts::queue_of))]
+    fn home(&self, n: usize) -> Option<Mask>
+        ensures { result ≡ home_of n self.now.states.filling self.now.free_len (queue_of self.now) }
     {
+        // The places are copied out: lent from the ring, they would have the compiler store all of it.
         let free = self.free;
-        walk_queue(self.states.filling, free, self.free_len, n)
+        walk_queue(self.states.filling, free.get(..self.free_len)?, n)
     }
 
     // Every slot below n is at home or in one of the other two masks, and no other is.
-    pub fn out_sound(self, n: usize, home: Home) -> bool
-        ensures { result ≡ out_test n self home }
+    #[inline(always)]
+    fn out_sound(&self, n: usize, home: Option<Mask>) -> bool
+        ensures { result ≡ out_test n self.now home }
     {
+        let Some(slots) = home else {
+            return false;
+        };
         let flying = self.states.in_flight;
         let discarding = self.states.discarding;
         let twice = flying.intersection(discarding);
-        let placed = home.slots.symmetric_difference(flying.union(discarding));
-        home.once
-            && twice
-                .union(placed.symmetric_difference(Mask::below(n)))
-                .is_empty()
+        let placed = slots.symmetric_difference(flying.union(discarding));
+        twice
+            .union(placed.symmetric_difference(Mask::below(n)))
+            .is_empty()
     }
 
     // The out count is how many of n slots are not at home.
-    pub fn count_sound(self, n: usize, hand: Hand) -> bool
-        ensures { result ≡ count_test n self hand }
+    #[tactic(auto, unfolding(crate::specs::Tests::count_test))]
+    fn count_sound(&self, n: usize, hand: Hand) -> bool
+        ensures { result ≡ count_test n self.now hand }
     {
-        let home = std::num::wrapping_add_usize(self.free_len, hand.count());
+        let home = self.free_len.wrapping_add(hand.count());
         home <= n && self.in_flight == n - home
     }
+
     // Whether the ring of n slots and the hand break nothing of refusal 8's list, whatever they hold.
-    pub fn sound(self, n: usize, hand: Hand) -> bool
-        ensures { result ≡ sound_ring n self hand }
+    #[inline(always)]
+    pub fn sound(&self, n: usize, hand: Hand) -> bool
+        ensures { result ≡ sound_ring n self.now hand }
     {
         if 256 < n {
             return false;

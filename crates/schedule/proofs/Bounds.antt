@@ -1,31 +1,22 @@
--- Products of 64-bit numbers, judged by a quotient.
+-- Products and quotients of 64-bit numbers.
 -- Assumes nothing.
 use mathlib.Core.Path.{◌≡◌}
-use Prim.Native.Nat.{ℕ, ◌-◌, ◌*◌, ◌/◌, ◌^◌, ◌≤◌, ◌<◌}
-use native.Mathlib.Nat.{le-div_iff_mul-le, div-lt_iff_lt-mul, lt_of_lt_of_le, le-mul_of_pos_right}
+use Prim.Native.Nat.{ℕ, ◌+◌, ◌*◌, ◌/◌, ◌%◌, ◌^◌, ◌≤◌, ◌<◌, min}
+use native.Mathlib.Nat.{le-div_iff_mul-le, div-lt_iff_lt-mul, le-mul_of_pos_right, add-mul}
 use native.Mathlib.Omega.{arith}
-use borrow.Author.Tests.{lt-ltb, le-ltb}
-use Rattle.error.specs.declared.Error.{Error}
-use Rattle.schedule.specs.declared.product.Product.{Product}
-use Rattle.schedule.specs.Product.{product_of}
+use Rattle.std.proofs.lemmas.Grind.{div_ceil_times}
+use Rattle.schedule.specs.Derive.{ceil_div}
 
-abbrev pub most : ℕ
-most = 2 ^ 64 - 1
+-- a further factor that is not zero leaves a product above
+pub still_above : (a c : ℕ) → 0 < c → 2 ^ 64 ≤ a → 2 ^ 64 ≤ a * c
+still_above a c p h = omega (arith, h, le-mul_of_pos_right {m = c} a p)
 
-pub within : (a b : ℕ) → 0 < b → a ≤ most / b → a * b < 2 ^ 64
-within a b p h = let k : a * b ≤ most = (le-div_iff_mul-le p).0 h in omega arith
-
-pub above : (a b : ℕ) → 0 < b → most / b < a → most < a * b
-above a b p h = (div-lt_iff_lt-mul p).0 h
-
--- a further factor that is not zero leaves it above
-pub still-above : (a c : ℕ) → 0 < c → most < a → most < a * c
-still-above a c p h = lt_of_lt_of_le h (le-mul_of_pos_right a p)
-
-pub valued : (v : ℕ) → v < 2 ^ 64 → Product.Value v ≡ product_of v
-unfolding product_of
-valued v h = simp (lt-ltb v (2 ^ 64) h)
-
-pub refused : (v : ℕ) → most < v → Product.Refused Error.ProductOverflow ≡ product_of v
-unfolding product_of
-refused v h = let k : 2 ^ 64 ≤ v = omega arith in simp (le-ltb v (2 ^ 64) k)
+-- the library's quotient, rounded up
+pub rounded_up : (a b : ℕ) → 0 < b → a / b + min 1 (a % b) ≡ ceil_div a b
+rounded_up a b p =
+    let q = a / b + min 1 (a % b) in
+    let around = div_ceil_times a b p in
+    let more : (q + 1) * b ≡ q * b + b = omega (arith, add-mul q 1 b) in
+    let low : q ≤ ceil_div a b = (le-div_iff_mul-le p).1 (omega (arith, around.0)) in
+    let high : ceil_div a b < q + 1 = (div-lt_iff_lt-mul p).1 (omega (arith, around.1, more)) in
+    omega (arith, low, high)

@@ -1,10 +1,8 @@
 -- Bus speed: the kernel's numbers, the probe of a device, the service interval of each speed and the cap on how many
 -- of them lie between two packets.
-use Rattle.std.specs.Prelude.{ℕ, Bool, cond, ℤ, pos, negsuc, eqb}
+use Rattle.std.specs.Prelude.{ℕ, Bool, cond, ℤ, pos, negsuc, eqb, Option, Some, None}
 use Rattle.schedule.specs.declared.speed.Speed.{Speed}
 use Rattle.schedule.specs.declared.speed.Speed.TheVariants.{Unknown, Low, Full, High, Wireless, Super, SuperPlus}
-use Rattle.schedule.specs.declared.speed.ServiceInterval.{ServiceInterval}
-use Rattle.schedule.specs.declared.speed.ServiceInterval.TheVariants.{Micros, Unsupported}
 
 -- 1 to 6 are Low, Full, High, Wireless, Super, SuperPlus, all else Unknown.
 unfoldable pub from_raw : ℤ → Speed
@@ -23,14 +21,14 @@ abbrev pub from_device_probe : ℕ → Bool → Speed
 from_device_probe size qualifier = cond (eqb size 9) Super (cond qualifier High Full)
 
 -- Base: 1000 µs (Full) or 125 µs (High, Super, SuperPlus); the other speeds have none, which gives 21.
-abbrev pub service_interval_us : Speed → ServiceInterval
-service_interval_us Unknown = Unsupported
-service_interval_us Low = Unsupported
-service_interval_us Full = Micros 1000
-service_interval_us High = Micros 125
-service_interval_us Wireless = Unsupported
-service_interval_us Super = Micros 125
-service_interval_us SuperPlus = Micros 125
+abbrev pub service_interval_us : Speed → Option ℕ
+service_interval_us Unknown = None
+service_interval_us Low = None
+service_interval_us Full = Some 1000
+service_interval_us High = Some 125
+service_interval_us Wireless = None
+service_interval_us Super = Some 125
+service_interval_us SuperPlus = Some 125
 
 -- At most 1024 service intervals (Full) or 8192; on Super and SuperPlus 32,768 (request 2026-05). The kernel's caps: USB 2.0 has none.
 abbrev pub max_intervals : Speed → ℕ

@@ -30,27 +30,22 @@ impl Endpoint {
     pub fn direction(self) -> Direction
         ensures { result ≡ direction_of self }
     {
-        if self.address / 128 == 1 {
-            return Direction::In;
+        match self.address >> 7 {
+            0 => Direction::Out,
+            _ => Direction::In,
         }
-        Direction::Out
     }
 
     // Bits 1..0 of the attributes.
     pub fn transfer_type(self) -> TransferType
         ensures { result ≡ transfer_type self }
     {
-        let kind = self.attributes % 4;
-        if kind == 0 {
-            return TransferType::Control;
+        match self.attributes & 0b11 {
+            0 => TransferType::Control,
+            1 => TransferType::Isochronous,
+            2 => TransferType::Bulk,
+            _ => TransferType::Interrupt,
         }
-        if kind == 1 {
-            return TransferType::Isochronous;
-        }
-        if kind == 2 {
-            return TransferType::Bulk;
-        }
-        TransferType::Interrupt
     }
 
     // Bits 10..0 of wMaxPacketSize are a packet's bytes, bits 12..11 the additional transactions
@@ -58,8 +53,8 @@ impl Endpoint {
     pub fn bytes_per_interval(self) -> usize
         ensures { result ≡ bytes_per_interval self }
     {
-        let size = (self.max_packet_size % 2048) as usize;
-        let additional = (self.max_packet_size / 2048 % 4) as usize;
+        let size = usize::from(self.max_packet_size & 0x7ff);
+        let additional = usize::from(self.max_packet_size >> 11 & 0b11);
         size * (1 + additional)
     }
 }

@@ -14,13 +14,6 @@ pub enum Speed {
     SuperPlus,
 }
 
-// The length of one service interval; Unsupported where a speed has no isochronous traffic.
-#[derive(Clone, Copy)]
-pub enum ServiceInterval {
-    Micros(u32),
-    Unsupported,
-}
-
 impl Speed {
     // The kernel's number for a speed.
     #[tactic(auto, unfolding(crate::specs::Speed::from_raw))]
@@ -44,26 +37,22 @@ impl Speed {
         ensures { result ≡ from_device_probe max_packet0 has_qualifier }
     {
         if max_packet0 == 9 {
-            return Speed::Super;
+            Speed::Super
+        } else if has_qualifier {
+            Speed::High
+        } else {
+            Speed::Full
         }
-        if has_qualifier {
-            return Speed::High;
-        }
-        Speed::Full
     }
 
     // A 1 ms frame at Full, a 125 µs microframe above it.
-    pub fn service_interval_us(self) -> ServiceInterval
+    pub fn service_interval_us(self) -> Option<u32>
         ensures { result ≡ service_interval_us self }
     {
         match self {
-            Speed::Unknown => ServiceInterval::Unsupported,
-            Speed::Low => ServiceInterval::Unsupported,
-            Speed::Full => ServiceInterval::Micros(1000),
-            Speed::High => ServiceInterval::Micros(125),
-            Speed::Wireless => ServiceInterval::Unsupported,
-            Speed::Super => ServiceInterval::Micros(125),
-            Speed::SuperPlus => ServiceInterval::Micros(125),
+            Speed::Unknown | Speed::Low | Speed::Wireless => None,
+            Speed::Full => Some(1000),
+            Speed::High | Speed::Super | Speed::SuperPlus => Some(125),
         }
     }
 
@@ -72,13 +61,9 @@ impl Speed {
         ensures { result ≡ max_intervals self }
     {
         match self {
-            Speed::Unknown => 8192,
-            Speed::Low => 8192,
             Speed::Full => 1024,
-            Speed::High => 8192,
-            Speed::Wireless => 8192,
-            Speed::Super => 32768,
-            Speed::SuperPlus => 32768,
+            Speed::Unknown | Speed::Low | Speed::High | Speed::Wireless => 8192,
+            Speed::Super | Speed::SuperPlus => 32768,
         }
     }
 }

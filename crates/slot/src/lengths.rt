@@ -1,6 +1,5 @@
 // The packet lengths of a slot, as the three commits set them.
 ghost use Rattle.std.specs.Prelude.{◌≡◌, true, false, ◌+◌, ◌*◌, ◌^◌, ◌≤◌, ◌<◌, length};
-ghost use Prim.Native.Nat;
 ghost use Rattle.sys.specs.Bytes.{store};
 ghost use Rattle.sys.specs.Header.{header_size};
 ghost use Rattle.sys.specs.Descriptor.{desc_size, desc_bytes, packet_of};
@@ -12,42 +11,15 @@ use layout::Setup;
 use sys::field::put_u32;
 use sys::{IsoPacketDesc, Urb};
 
-// The smaller of two numbers.
-fn min(a: usize, b: usize) -> usize
-    ensures { result ≡ Nat.min a b }
-{
-    if a <= b { a } else { b }
-}
-
 // Whether a length is above `most`.
 pub fn any_above(lengths: &[usize], most: usize) -> bool
     ensures { result ≡ any_above most lengths.now }
 {
-    let mut k = 0;
-    while k < lengths.len() {
-        if most < lengths[k] {
-            return true;
-        }
-        k += 1;
-    }
-    false
-}
-
-// Internal: the sum of the lengths, which fits.
-fn total_of(lengths: &[usize]) -> usize
-    requires { sum lengths.now < 2 ^ 32 }
-    ensures { result ≡ sum lengths.now }
-{
-    let mut total: usize = 0;
-    let mut k = 0;
-    while k < lengths.len() {
-        total += lengths[k];
-        k += 1;
-    }
-    total
+    lengths.iter().any(|&length| most < length)
 }
 
 // Internal: readies the header at `at` for a submission of `total` bytes.
+#[tactic(auto, unfolding(ledger::specs::Slot::headed))]
 fn set_header(block: &mut [u8], at: usize, total: usize)
     requires { (at + header_size ≤ length block.old) × (total < 2 ^ 32) }
     ensures { block.new ≡ headed at total block.old }
@@ -74,26 +46,20 @@ fn write_shares(block: &mut [u8], at: usize, packets: usize, most: usize, bytes:
     ensures { block.new ≡ store at (descriptors (shares packets most bytes)) block.old }
 {
     let mut rest = bytes;
-    let mut k = 0;
-    while k < packets {
-        let take = min(rest, most);
+    for k in 0..packets {
+        let take = rest.min(most);
         set_packet(block, at + IsoPacketDesc::SIZE * k, take);
         rest -= take;
-        k += 1;
     }
 }
 
-// Internal: writes one descriptor a length from `at` on. `most` stands in the contract alone: with it each length
-// fits 32 bits.
-fn write_lengths(block: &mut [u8], at: usize, lengths: &[usize], most: usize)
-    requires { (at + desc_size * length lengths.now ≤ length block.old) × (most < 2 ^ 32)
-        × (any_above most lengths.now ≡ false) }
+// Internal: writes one descriptor a length from `at` on. Where their sum fits 32 bits, each length does.
+fn write_lengths(block: &mut [u8], at: usize, lengths: &[usize])
+    requires { (at + desc_size * length lengths.now ≤ length block.old) × (sum lengths.now < 2 ^ 32) }
     ensures { block.new ≡ store at (descriptors lengths.now) block.old }
 {
-    let mut k = 0;
-    while k < lengths.len() {
-        set_packet(block, at + IsoPacketDesc::SIZE * k, lengths[k]);
-        k += 1;
+    for (k, &length) in lengths.iter().enumerate() {
+        set_packet(block, at + IsoPacketDesc::SIZE * k, length);
     }
 }
 
@@ -117,6 +83,6 @@ pub fn set_packet_lengths_exact(setup: Setup, block: &mut [u8], i: usize, length
     ensures { block.new ≡ committed setup i lengths.now block.old }
 {
     let at = setup.places(i);
-    set_header(block, at.header, total_of(lengths));
-    write_lengths(block, at.descs, lengths, setup.packet_bytes)
+    set_header(block, at.header, lengths.iter().sum());
+    write_lengths(block, at.descs, lengths)
 }

@@ -1,4 +1,3 @@
 pub mod Soundness
 pub mod Numbers
 pub mod Arrays
-pub mod Joined

@@ -40,20 +40,6 @@ pub struct Stream {
     pub flags: Flags,
 }
 
-// What the kernel answered to SUBMITURB.
-#[derive(Clone, Copy)]
-pub enum Submission {
-    Accepted,
-    Errno(u32),
-}
-
-// What the kernel answered to REAPURBNDELAY.
-#[derive(Clone, Copy)]
-pub enum Reaping {
-    Errno(u32),
-    Address(usize),
-}
-
 // The outcome of one URB, as the kernel filled it in.
 #[derive(Clone, Copy)]
 pub struct Completion {
@@ -101,15 +87,11 @@ impl Stream {
     }
 
     // Whether the record breaks nothing of refusal 8's list, whatever it holds.
-    pub fn sound(self) -> bool
-        ensures { result ≡ sound self }
+    #[tactic(auto, unfolding(crate::specs::Sound::sound))]
+    #[inline(always)]
+    pub fn sound(&self) -> bool
+        ensures { result ≡ sound self.now }
     {
-        let setup = self.setup;
-        if !setup.admissible() {
-            return false;
-        }
-        let ring = self.ring;
-        let hand = self.hand;
-        ring.sound(setup.slots, hand)
+        self.setup.admissible() && self.ring.sound(self.setup.slots, self.hand)
     }
 }

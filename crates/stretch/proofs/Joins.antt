@@ -1,5 +1,6 @@
--- The stretches of each buffer join to the part of it that has been passed.
--- By induction over the asks: a step's stretch is the part between its position and the next, and two parts that meet join. Assumes nothing.
+-- The stretches of each buffer join to the part of it that has been passed. By induction over the asks: a step's stretch is the part
+-- between its position and the next, and two parts that meet join. Assumes nothing.
+use Rattle.std.specs.Prelude.{Option, Some, None}
 use mathlib.Core.Path.{◌≡◌, sym, ap, ◌∙◌}
 use mathlib.Core.List.{List, [], ◌∷◌, ◌++◌}
 use Prim.Native.Nat.{ℕ, ◌+◌, ◌-◌, ◌≤◌}
@@ -8,7 +9,7 @@ use lib.ListN.{take, drop}
 use lib.Seq.{take-add, drop-drop}
 use Rattle.stretch.specs.declared.Positions.{Positions}
 use Rattle.stretch.specs.declared.Source.{Source}
-use Rattle.stretch.specs.declared.Source.TheVariants.{Programme, Message, Neither}
+use Rattle.stretch.specs.declared.Source.TheVariants.{Programme, Message}
 use Rattle.stretch.specs.declared.Stretch.{Stretch}
 use Rattle.stretch.specs.Stretch.{source_of, stretch_from, next_stretch, part_of}
 use Rattle.stretch.specs.Steps.{Ask, steps, last, of_programme, of_message, joined, passed, Joins}
@@ -38,17 +39,17 @@ module _ (p m : List ℕ) (at : Positions) where
     programme : of_programme s.source (part_of p m s) ≡ passed at.programme s.next.programme p
     message : of_message s.source (part_of p m s) ≡ passed at.message s.next.message m
 
-  one : (capacity : ℕ) (s : Source) → One (stretch_from s p m capacity at)
+  one : (capacity : ℕ) (s : Option Source) → One (stretch_from s p m capacity at)
   unfolding stretch_from
-  one capacity Programme =
+  one capacity (Some Programme) =
       record { programme-on = omega arith; message-on = omega arith; programme = first at.programme _ p; message = none at.message m }
-  one capacity Message =
+  one capacity (Some Message) =
       record { programme-on = omega arith; message-on = omega arith; programme = none at.programme p; message = first at.message _ m }
-  one capacity Neither =
+  one capacity None =
       record { programme-on = omega arith; message-on = omega arith; programme = none at.programme p; message = none at.message m }
 
 pub joins : (p m : List ℕ) (at : Positions) (asks : List Ask) → Joins p m at (last at (steps p m at asks)) (steps p m at asks)
-unfolding steps last joined next_stretch
+unfolding steps last joined
 joins p m at [] =
     record { programme-on = omega arith; message-on = omega arith; programme = none at.programme p; message = none at.message m }
 joins p m at (a ∷ asks) =

@@ -1,5 +1,5 @@
 -- What request 2026-06 says of one step, and of positions that are not beyond their buffers' ends.
-use Rattle.std.specs.Prelude.{ℕ, ◌≤◌, ◌<◌, ◌≡◌, Bool, true, false, List, [], length}
+use Rattle.std.specs.Prelude.{ℕ, ◌≤◌, ◌<◌, ◌≡◌, Bool, true, false, List, [], length, Some}
 use Rattle.stretch.specs.declared.Positions.{Positions}
 use Rattle.stretch.specs.declared.Source.TheVariants.{Programme, Message}
 use Rattle.stretch.specs.declared.Stretch.{Stretch}
@@ -29,11 +29,11 @@ module _ (p m : List ℕ) (flag : Bool) (capacity : ℕ) (at : Positions) where
     pub within : Within p m at → refusal_number step.source ≡ 0
     pub stays_within : Within p m at → Within p m step.next
     -- When the message flag is set and the message isn't used up, the stretch comes from the message, else from the programme.
-    pub from-message : Within p m at → flag ≡ true → at.message < length m → step.source ≡ Message
-    pub from-programme : Within p m at → flag ≡ false → step.source ≡ Programme
-    pub used-up : Within p m at → at.message ≡ length m → step.source ≡ Programme
+    pub from-message : Within p m at → flag ≡ true → at.message < length m → step.source ≡ Some Message
+    pub from-programme : Within p m at → flag ≡ false → step.source ≡ Some Programme
+    pub used-up : Within p m at → at.message ≡ length m → step.source ≡ Some Programme
     -- Programme used up: an empty part. Capacity 0: the same.
-    pub programme-used-up : Within p m at → step.source ≡ Programme → at.programme ≡ length p → Unmoved p m at step
+    pub programme-used-up : Within p m at → step.source ≡ Some Programme → at.programme ≡ length p → Unmoved p m at step
     pub no-capacity : capacity ≡ 0 → Unmoved p m at step
     -- The part has as many bytes as the step says.
     pub long : length (part_of p m step) ≡ step.len

@@ -1,8 +1,8 @@
 -- A list of steps, each from the positions that the last one gave, on unchanged buffers.
-use Rattle.std.specs.Prelude.{ℕ, ◌-◌, ◌≤◌, ◌≡◌, Bool, List, [], ◌∷◌, ◌++◌, take, drop}
+use Rattle.std.specs.Prelude.{ℕ, ◌-◌, ◌≤◌, ◌≡◌, Bool, List, [], ◌∷◌, ◌++◌, take, drop, Option, Some, None}
 use Rattle.stretch.specs.declared.Positions.{Positions}
 use Rattle.stretch.specs.declared.Source.{Source}
-use Rattle.stretch.specs.declared.Source.TheVariants.{Programme, Message, Neither}
+use Rattle.stretch.specs.declared.Source.TheVariants.{Programme, Message}
 use Rattle.stretch.specs.declared.Stretch.{Stretch}
 use Rattle.stretch.specs.Stretch.{next_stretch, part_of}
 
@@ -24,18 +24,18 @@ last at [] = at
 last at (s ∷ rest) = last s.next rest
 
 -- A stretch that is of the programme; of the message. A refused step is of neither.
-abbrev pub of_programme : Source → List ℕ → List ℕ
-of_programme Programme part = part
-of_programme Message part = []
-of_programme Neither part = []
+abbrev pub of_programme : Option Source → List ℕ → List ℕ
+of_programme (Some Programme) part = part
+of_programme (Some Message) part = []
+of_programme None part = []
 
-abbrev pub of_message : Source → List ℕ → List ℕ
-of_message Programme part = []
-of_message Message part = part
-of_message Neither part = []
+abbrev pub of_message : Option Source → List ℕ → List ℕ
+of_message (Some Programme) part = []
+of_message (Some Message) part = part
+of_message None part = []
 
 -- The stretches of one buffer, joined.
-unfoldable pub joined : (Source → List ℕ → List ℕ) → List ℕ → List ℕ → List Stretch → List ℕ
+unfoldable pub joined : (Option Source → List ℕ → List ℕ) → List ℕ → List ℕ → List Stretch → List ℕ
 joined of_buffer p m [] = []
 joined of_buffer p m (s ∷ rest) = of_buffer s.source (part_of p m s) ++ joined of_buffer p m rest
 

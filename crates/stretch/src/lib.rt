@@ -2,9 +2,9 @@
 // else a part of the programme (request 2026-06). Both buffers are lent, and the reading positions are the host's.
 #![tactic(auto)]
 
-ghost use Rattle.std.specs.Prelude.{◌≡◌, ◌+◌, ◌≤◌, length, take, drop};
-ghost use Rattle.stretch.specs.Stretch.{stretch_length, source_of, next_stretch, buffer_of};
-ghost use Rattle.stretch.specs.Taken.{source_number, refusal_number, positions, Taken};
+ghost use Rattle.std.specs.Prelude.{◌≡◌, ◌+◌, ◌≤◌, length, MatchResult};
+ghost use Rattle.stretch.specs.Stretch.{stretch_length, source_of, next_stretch};
+ghost use Rattle.stretch.specs.Taken.{source_number, refusal_number, Taken, Refused};
 
 use error::Error;
 
@@ -15,66 +15,57 @@ pub struct Positions {
     pub message: usize,
 }
 
-// Which buffer a stretch is a part of: Neither where a position is beyond its buffer's end.
+// Which buffer a stretch is a part of.
 #[derive(Clone, Copy)]
 pub enum Source {
     Programme,
     Message,
-    Neither,
 }
 
-// Which buffer the stretch is a part of, where it starts there and how long it is; and the next positions.
+// Which buffer the stretch is a part of, none where a position is beyond its buffer's end; where it starts there and
+// how long it is; and the next positions.
 #[derive(Clone, Copy)]
 pub struct Stretch {
-    pub source: Source,
+    pub source: Option<Source>,
     pub start: usize,
     pub len: usize,
     pub next: Positions,
 }
 
-impl Source {
-    // As C is told: 0 programme, 1 message, 2 neither.
-    pub fn number(self) -> u64
-        ensures { result ≡ source_number self }
+impl Stretch {
+    // The source as C is told: 0 programme, 1 message, 2 neither.
+    pub fn source_number(self) -> u64
+        ensures { result ≡ source_number self.source }
     {
-        match self {
-            Source::Programme => 0,
-            Source::Message => 1,
-            Source::Neither => 2,
+        match self.source {
+            Some(Source::Programme) => 0,
+            Some(Source::Message) => 1,
+            None => 2,
         }
     }
 
-    // The number of a step with this source: 34 where it has none, else 0.
+    // The step's number: 34 where it has no source, else 0.
     pub fn refusal(self) -> u32
-        ensures { result ≡ refusal_number self }
+        ensures { result ≡ refusal_number self.source }
     {
-        match self {
-            Source::Programme => 0,
-            Source::Message => 0,
-            Source::Neither => Error::PositionBeyond.number(),
+        match self.source {
+            Some(_) => 0,
+            None => Error::PositionBeyond.number(),
         }
     }
 }
 
 // Where the next stretch comes from.
-fn source_of(programme: &[u8], message: &[u8], message_flag: bool, at: Positions) -> Source
+#[tactic(auto, unfolding(crate::specs::Stretch::source_of))]
+fn source_of(programme: &[u8], message: &[u8], message_flag: bool, at: Positions) -> Option<Source>
     ensures { result ≡ source_of programme.now message.now message_flag at }
 {
-    let m = at.message;
-    if programme.len() < at.programme {
-        return Source::Neither;
-    }
-    if message.len() < m {
-        return Source::Neither;
-    }
-    if message_flag {
-        if m < message.len() {
-            Source::Message
-        } else {
-            Source::Programme
-        }
+    if at.programme > programme.len() || at.message > message.len() {
+        None
+    } else if message_flag && at.message < message.len() {
+        Some(Source::Message)
     } else {
-        Source::Programme
+        Some(Source::Programme)
     }
 }
 
@@ -83,11 +74,11 @@ fn stretch_len(buffer: &[u8], at: usize, capacity: usize) -> usize
     requires { at ≤ length buffer.now }
     ensures { (result ≡ stretch_length capacity at buffer.now) × (at + result ≤ length buffer.now) }
 {
-    let left = buffer.len() - at;
-    if capacity <= left { capacity } else { left }
+    capacity.min(buffer.len() - at)
 }
 
 // The next stretch as numbers; the positions are the host's to move.
+#[tactic(auto, unfolding(crate::specs::Stretch::stretch_from, crate::specs::Stretch::source_of))]
 pub fn next_stretch(
     programme: &[u8],
     message: &[u8],
@@ -97,35 +88,34 @@ pub fn next_stretch(
 ) -> Stretch
     ensures { result ≡ next_stretch programme.now message.now message_flag capacity at }
 {
-    let p = at.programme;
-    let m = at.message;
-    match source_of(programme, message, message_flag, at) {
-        Source::Programme => {
-            let len = stretch_len(programme, p, capacity);
+    let source = source_of(programme, message, message_flag, at);
+    match source {
+        Some(Source::Programme) => {
+            let len = stretch_len(programme, at.programme, capacity);
             Stretch {
-                source: Source::Programme,
-                start: p,
+                source,
+                start: at.programme,
                 len,
                 next: Positions {
-                    programme: p + len,
-                    message: m,
+                    programme: at.programme + len,
+                    ..at
                 },
             }
         }
-        Source::Message => {
-            let len = stretch_len(message, m, capacity);
+        Some(Source::Message) => {
+            let len = stretch_len(message, at.message, capacity);
             Stretch {
-                source: Source::Message,
-                start: m,
+                source,
+                start: at.message,
                 len,
                 next: Positions {
-                    programme: p,
-                    message: m + len,
+                    message: at.message + len,
+                    ..at
                 },
             }
         }
-        Source::Neither => Stretch {
-            source: Source::Neither,
+        None => Stretch {
+            source,
             start: 0,
             len: 0,
             next: at,
@@ -133,55 +123,25 @@ pub fn next_stretch(
     }
 }
 
-// Internal: a part of the buffer that the source names, empty where it names none.
-fn part<'a>(
-    programme: &'a [u8],
-    message: &'a [u8],
-    source: Source,
-    start: usize,
-    len: usize,
-) -> &'a [u8]
-    requires { start + len ≤ length (buffer_of source programme.now message.now) }
-    ensures { result.now ≡ take len (drop start (buffer_of source programme.now message.now)) }
-{
-    match source {
-        Source::Programme => {
-            let end = start + len;
-            &programme[start..end]
-        }
-        Source::Message => {
-            let end = start + len;
-            &message[start..end]
-        }
-        Source::Neither => &programme[0..0],
-    }
-}
-
-// One step, whole: the next stretch itself, with the positions moved where they are lent, and there too the step's
-// number, 0 or 34.
-pub fn take_stretch<'a, 'b>(
+// One step, whole: the next stretch itself, with the positions moved where they are lent; or 34, with the positions as
+// they were.
+#[tactic(auto, using(crate::proofs::Chosen::next_stands, crate::proofs::Chosen::next_unmoved))]
+pub fn take_stretch<'a>(
     programme: &'a [u8],
     message: &'a [u8],
     message_flag: bool,
     capacity: usize,
-    programme_at: &'b mut usize,
-    message_at: &'b mut usize,
-    refusal: &'b mut u32,
-) -> &'a [u8]
-    ensures { Taken programme.now message.now
-        (next_stretch programme.now message.now message_flag capacity
-        (positions programme_at.old message_at.old)) result.now programme_at.new
-        message_at.new refusal.new }
+    at: &mut Positions,
+) -> Result<&'a [u8], Error>
+    ensures { let s = next_stretch programme.now message.now message_flag capacity at.old in
+        MatchResult result (λ part. Taken programme.now message.now s part.now at.new)
+        (λ e. Refused s e at.old at.new) }
 {
-    let at = Positions {
-        programme: *programme_at,
-        message: *message_at,
+    let s = next_stretch(programme, message, message_flag, capacity, *at);
+    *at = s.next;
+    let buffer = match s.source.ok_or(Error::PositionBeyond)? {
+        Source::Programme => programme,
+        Source::Message => message,
     };
-    let s = next_stretch(programme, message, message_flag, capacity, at);
-    let next = s.next;
-    let source = s.source;
-    *programme_at = next.programme;
-    *message_at = next.message;
-    *refusal = source.refusal();
-    part(programme, message, source, s.start, s.len)
+    Ok(&buffer[s.start..s.start + s.len])
 }

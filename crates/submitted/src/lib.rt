@@ -14,19 +14,18 @@ ghost use Rattle.ledger.specs.Told.{Told};
 
 use error::{ErrnoContext, Error};
 use front::{silence_taken, take_front, take_silent};
-use gate::{Gate, Lent, block_test, put_back, refused};
+use gate::{block_gate, put_back, refused};
 use layout::Setup;
 use notice::buffer_bytes;
 use ring::Hand;
-use stream::{Answer, Flags, Reply, Stream, Submission};
+use stream::{Answer, Flags, Reply, Stream};
 
 // Internal: the payload bytes of all slots.
 fn payload_bytes(setup: Setup) -> u64
     requires { admissible setup ≡ true }
     ensures { result ≡ setup.slots * setup.packets_per_urb * setup.packet_bytes }
 {
-    let bytes = setup.slots * setup.packets_per_urb * setup.packet_bytes;
-    bytes as u64
+    (setup.slots * setup.packets_per_urb * setup.packet_bytes) as u64
 }
 
 // Internal: the kernel has accepted slot i. The bytes that count are those of its header now: the host may have changed
@@ -35,23 +34,15 @@ fn accept(s: Stream, block: &[u8], i: usize) -> Stream
     requires { (sound s ≡ true) × (holds s.hand i ≡ true) × (length block.now ≡ total_of s.setup) }
     ensures { result ≡ stored s (accepted_ledger s.setup i (view s) block.now) }
 {
-    let setup = s.setup;
-    let was = s.ring;
-    let started = s.flags.started;
-    let bytes = buffer_bytes(setup, block, i);
+    let bytes = buffer_bytes(s.setup, block, i);
     let mut stats = s.stats;
-    stats.urbs_submitted = std::num::wrapping_add_u64(stats.urbs_submitted, 1);
-    stats.bytes_submitted = std::num::wrapping_add_u64(stats.bytes_submitted, bytes);
-    Stream::new(
-        setup,
-        was.mark_in_flight(i),
-        Hand::Idle,
-        Flags {
-            started,
-            armed: true,
-        },
-        stats,
-    )
+    stats.urbs_submitted = stats.urbs_submitted.wrapping_add(1);
+    stats.bytes_submitted = stats.bytes_submitted.wrapping_add(bytes);
+    let flags = Flags {
+        armed: true,
+        ..s.flags
+    };
+    Stream::new(s.setup, s.ring.mark_in_flight(i), Hand::Idle, flags, stats)
 }
 
 // Internal: the kernel refused slot i, which goes back to the queue.
@@ -72,58 +63,45 @@ fn chain(s: Stream, block: &mut [u8], left: usize) -> Reply
     if left == 0 {
         take_front(s)
     } else {
-        let setup = s.setup;
         let done = take_silent(s, left - 1);
-        let after = done.stream;
-        let hand = after.hand;
-        silence_taken(setup, hand, block);
+        silence_taken(s.setup, done.stream.hand, block);
         done
     }
 }
 
 // Internal: the reply to a slot of the host's.
-fn sent(s: Stream, reply: Submission, block: &[u8], i: usize) -> Reply
+fn sent(s: Stream, reply: Result<(), u32>, block: &[u8], i: usize) -> Reply
     requires { (sound s ≡ true) × (holds s.hand i ≡ true) × (length block.now ≡ total_of s.setup) }
     ensures { Gives s (sent_rule reply i s.setup (view s) block.now) result block.now }
 {
     match reply {
-        Submission::Accepted => Reply {
+        Ok(()) => Reply {
             stream: accept(s, block, i),
             answer: Answer::Done,
         },
-        Submission::Errno(errno) => fail(s, i, errno),
+        Err(errno) => fail(s, i, errno),
     }
 }
 
 // Internal: the reply to a silent slot.
-fn silent(s: Stream, reply: Submission, block: &mut [u8], i: usize, left: usize) -> Reply
+fn silent(s: Stream, reply: Result<(), u32>, block: &mut [u8], i: usize, left: usize) -> Reply
     requires { (sound s ≡ true) × (holds s.hand i ≡ true) × (length block.old ≡ total_of s.setup) }
     ensures { Gives s (silent_rule reply i left s.setup (view s) block.old) result block.new }
 {
     match reply {
-        Submission::Accepted => chain(accept(s, block, i), block, left),
-        Submission::Errno(errno) => fail(s, i, errno),
+        Ok(()) => chain(accept(s, block, i), block, left),
+        Err(errno) => fail(s, i, errno),
     }
 }
 
 // The kernel's answer to the slot in hand is taken: the slot is out, or back in the queue.
-pub fn submitted(s: Stream, reply: Submission, block: &mut [u8]) -> Reply
+pub fn submitted(s: Stream, reply: Result<(), u32>, block: &mut [u8]) -> Reply
     ensures { Told (Call.submitted reply block.old) s result.answer result.stream block.new }
 {
-    let setup = s.setup;
-    let ring = s.ring;
-    let hand = s.hand;
-    let n = setup.slots;
-    let home = ring.home(n);
-    let is_sound = setup.admissible()
-        & ring.hand_sound(n, hand)
-        & ring.out_sound(n, home)
-        & ring.count_sound(n, hand);
-    match block_test(is_sound, setup, Lent::Block(block.len())) {
-        Gate::Refused(e) => refused(s, e),
-        Gate::Open => match hand {
-            Hand::Idle => refused(s, Error::WrongHand),
-            Hand::Held(_) => refused(s, Error::WrongHand),
+    match block_gate(&s, Some(block.len())) {
+        Err(e) => refused(s, e),
+        Ok(()) => match s.hand {
+            Hand::Idle | Hand::Held(_) => refused(s, Error::WrongHand),
             Hand::Sending(i) => sent(s, reply, block, i),
             Hand::Silent(i, left) => silent(s, reply, block, i, left),
         },

@@ -1,5 +1,6 @@
 -- Laws of a packet's descriptor in a block: what was stored is read back.
 -- The 12 bytes compute to the fields' own bytes, so each field is the law of `Fields` at its offset. Assumes nothing.
+use Rattle.std.specs.Prelude.{Ok}
 use mathlib.Core.Path.{◌≡◌, refl, ap}
 use mathlib.Core.List.{List}
 use Prim.Native.Nat.{ℕ, ◌+◌, ◌≤◌}
@@ -9,7 +10,6 @@ use lib.ListN.{length}
 use mir.Syntax.{w32}
 use mir.Val.{Fits}
 use Rattle.sys.specs.declared.descriptor.IsoPacketDesc.{IsoPacketDesc}
-use Rattle.sys.specs.declared.descriptor.IsoPacketDescRead.TheVariants.{Desc}
 use Rattle.sys.specs.Bytes.{le, laid, part, field, store}
 use Rattle.sys.specs.Descriptor.{length_at, desc_actual_length_at, desc_status_at, desc_size, desc_bytes, desc_at, desc_read}
 use Rattle.sys.proofs.Store.{length-store}
@@ -40,8 +40,8 @@ module _ (at : ℕ) (d : IsoPacketDesc) (l : List ℕ) (room : at + desc_size �
     status = back desc_status_at d.status (omega arith) refl fits.status i;
   }
 
-  pub desc-read-back : DescFits d → desc_read at (store at (desc_bytes d) l) ≡ Desc d
+  pub desc-read-back : DescFits d → desc_read at (store at (desc_bytes d) l) ≡ Ok d
   unfolding desc_read
   desc-read-back fits =
       let e : length (store at (desc_bytes d) l) ≡ length l = length-store at (desc_bytes d) l in
-      rw (le-leb (at + desc_size) (length (store at (desc_bytes d) l)) (omega arith)) (ap Desc (desc-back fits))
+      rw (le-leb (at + desc_size) (length (store at (desc_bytes d) l)) (omega arith)) (ap Ok (desc-back fits))

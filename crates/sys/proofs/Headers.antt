@@ -1,5 +1,6 @@
 -- Laws of the header in a block: what was stored is read back, a store apart from it leaves it, and its offsets are the running sums of its widths.
 -- The 56 bytes compute to the fields' own bytes, so each field is the law of `Fields` at its offset. Assumes nothing.
+use Rattle.std.specs.Prelude.{Ok}
 use mathlib.Core.Path.{◌≡◌, refl, ap, ◌∙◌}
 use mathlib.Core.List.{List, [], ◌∷◌}
 use Prim.Native.Nat.{ℕ, ◌+◌, ◌^◌, ◌≤◌, ◌<◌}
@@ -10,7 +11,6 @@ use lib.ListN.{length}
 use mir.Syntax.{w8, w32, w64}
 use mir.Val.{Fits, SFits}
 use Rattle.sys.specs.declared.header.Urb.{Urb}
-use Rattle.sys.specs.declared.header.UrbRead.TheVariants.{Header}
 use Rattle.sys.specs.Bytes.{le, laid, part, field, store}
 use Rattle.sys.specs.Signed.{signed, unsigned}
 use Rattle.sys.specs.Header.{type_at, endpoint_at, status_at, flags_at, buffer_at, buffer_length_at, actual_length_at, start_frame_at, packet_count_at, error_count_at, signal_at, cookie_at, header_size, header_widths, header_bytes, header_at, header_read}
@@ -75,11 +75,11 @@ module _ (at : ℕ) (u : Urb) (l : List ℕ) (room : at + header_size ≤ length
     usercontext = back cookie_at 8 u.usercontext (omega arith) refl fits.usercontext.fits i;
   }
 
-  pub header-read-back : HeaderFits u → header_read at (store at (header_bytes u) l) ≡ Header u
+  pub header-read-back : HeaderFits u → header_read at (store at (header_bytes u) l) ≡ Ok u
   unfolding header_read
   header-read-back fits =
       let e : length (store at (header_bytes u) l) ≡ length l = length-store at (header_bytes u) l in
-      rw (le-leb (at + header_size) (length (store at (header_bytes u) l)) (omega arith)) (ap Header (header-back fits))
+      rw (le-leb (at + header_size) (length (store at (header_bytes u) l)) (omega arith)) (ap Ok (header-back fits))
 
 -- a store apart from a header leaves it
 pub header-other : (at bt : ℕ) (vs l : List ℕ) → Apart at header_size bt (length vs) → header_at at (store bt vs l) ≡ header_at at l

@@ -1,5 +1,5 @@
 -- Numbers in a block of bytes, little-endian. A block is the list of its bytes.
-use Rattle.std.specs.Prelude.{ℕ, zero, suc, ◌+◌, ◌*◌, ◌/◌, ◌%◌, List, [], ◌∷◌, ◌++◌, take, drop}
+use Rattle.std.specs.Prelude.{ℕ, zero, suc, ◌+◌, ◌*◌, ◌/◌, ◌%◌, List, [], ◌∷◌, ◌++◌, take, drop, map}
 use Rattle.std.proofs.lemmas.List.Edits.{sets}
 
 -- The k low bytes of v, the lowest first.
@@ -29,3 +29,7 @@ unfoldable pub laid : List ℕ → List ℕ → List ℕ
 laid [] values = []
 laid (w ∷ widths) [] = []
 laid (w ∷ widths) (v ∷ values) = le w v ++ laid widths values
+
+-- The same of numbers that each have their width before them.
+abbrev pub laid_fields : List (ℕ × ℕ) → List ℕ
+laid_fields fields = laid (map (λ (f : ℕ × ℕ). f.0) fields) (map (λ (f : ℕ × ℕ). f.1) fields)

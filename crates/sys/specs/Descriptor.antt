@@ -1,9 +1,8 @@
 -- A packet's descriptor: struct usbdevfs_iso_packet_desc, three unsigned numbers of 4 bytes.
-use Rattle.std.specs.Prelude.{ℕ, ◌+◌, cond, List, [], ◌∷◌, leb, length}
+use Rattle.error.specs.declared.Error.{Error}
+use Rattle.std.specs.Prelude.{ℕ, ◌+◌, cond, List, [], ◌∷◌, leb, length, Result, Ok, Err}
 use Rattle.error.specs.declared.Error.TheVariants.{BlockLength}
 use Rattle.sys.specs.declared.descriptor.IsoPacketDesc.{IsoPacketDesc}
-use Rattle.sys.specs.declared.descriptor.IsoPacketDescRead.{IsoPacketDescRead}
-use Rattle.sys.specs.declared.descriptor.IsoPacketDescRead.TheVariants.{Desc, Refused}
 use Rattle.sys.specs.Bytes.{field, laid}
 
 -- Byte offsets of the fields.
@@ -41,8 +40,8 @@ desc_at at block = record {
 }
 
 -- Reading it: refused with 6 where the block has no 12 bytes there.
-unfoldable pub desc_read : ℕ → List ℕ → IsoPacketDescRead
-desc_read at block = cond (leb (at + desc_size) (length block)) (Desc (desc_at at block)) (Refused BlockLength)
+unfoldable pub desc_read : ℕ → List ℕ → Result IsoPacketDesc Error
+desc_read at block = cond (leb (at + desc_size) (length block)) (Ok (desc_at at block)) (Err BlockLength)
 
 -- A packet that is to be sent: its length, actual 0, status 0.
 abbrev pub packet_of : ℕ → IsoPacketDesc

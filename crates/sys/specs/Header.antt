@@ -1,9 +1,8 @@
 -- The URB header of usbfs: struct usbdevfs_urb without its packet descriptors, 64-bit little-endian.
-use Rattle.std.specs.Prelude.{ℕ, ◌+◌, cond, List, [], ◌∷◌, leb, ℤ, pos, length}
+use Rattle.error.specs.declared.Error.{Error}
+use Rattle.std.specs.Prelude.{ℕ, ◌+◌, cond, List, [], ◌∷◌, leb, ℤ, pos, length, Result, Ok, Err}
 use Rattle.error.specs.declared.Error.TheVariants.{BlockLength}
 use Rattle.sys.specs.declared.header.Urb.{Urb}
-use Rattle.sys.specs.declared.header.UrbRead.{UrbRead}
-use Rattle.sys.specs.declared.header.UrbRead.TheVariants.{Header, Refused}
 use Rattle.sys.specs.Bytes.{field, laid}
 use Rattle.sys.specs.Signed.{signed, unsigned}
 
@@ -81,8 +80,8 @@ header_at at block = record {
 }
 
 -- Reading it: refused with 6 where the block has no 56 bytes there.
-unfoldable pub header_read : ℕ → List ℕ → UrbRead
-header_read at block = cond (leb (at + header_size) (length block)) (Header (header_at at block)) (Refused BlockLength)
+unfoldable pub header_read : ℕ → List ℕ → Result Urb Error
+header_read at block = cond (leb (at + header_size) (length block)) (Ok (header_at at block)) (Err BlockLength)
 
 -- A slot's header as opening makes it: type 0, the endpoint, flags 2, the buffer's address and length, the packet count and the cookie; all
 -- else 0.

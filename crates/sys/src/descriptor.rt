@@ -35,20 +35,24 @@ impl IsoPacketDesc {
     }
 
     // Internal: stores the descriptor's 12 bytes at `at`.
+    #[tactic(auto, unfolding(crate::specs::Descriptor::desc_bytes, crate::specs::Bytes::laid, crate::specs::Bytes::le))]
     pub fn write(self, s: &mut [u8], at: usize)
         requires { at + desc_size ≤ length s.old }
         ensures { s.new ≡ store at (desc_bytes self) s.old }
     {
-        let widths: [usize; 3] = [4, 4, 4];
-        let values: [u64; 3] = [
-            self.length as u64,
-            self.actual_length as u64,
-            self.status as u64,
-        ];
-        lay(s, at, &widths, &values)
+        lay(
+            s,
+            at,
+            &[
+                (4, self.length as u64),
+                (4, self.actual_length as u64),
+                (4, self.status as u64),
+            ],
+        )
     }
 
     // Internal: the descriptor that stands at `at`.
+    #[tactic(auto, unfolding(crate::specs::Descriptor::desc_at))]
     pub fn load(s: &[u8], at: usize) -> IsoPacketDesc
         requires { at + desc_size ≤ length s.now }
         ensures { result ≡ desc_at at s.now }
@@ -62,20 +66,13 @@ impl IsoPacketDesc {
 
     // The descriptor that stands at `at`, where the slice has room for one there.
     #[tactic(auto, unfolding(crate::specs::Descriptor::desc_read))]
-    pub fn read(s: &[u8], at: usize) -> IsoPacketDescRead
+    pub fn read(s: &[u8], at: usize) -> Result<IsoPacketDesc, Error>
         ensures { result ≡ desc_read at s.now }
     {
         if has_room(s, at, IsoPacketDesc::SIZE) {
-            IsoPacketDescRead::Desc(IsoPacketDesc::load(s, at))
+            Ok(IsoPacketDesc::load(s, at))
         } else {
-            IsoPacketDescRead::Refused(Error::BlockLength)
+            Err(Error::BlockLength)
         }
     }
-}
-
-// What reading a descriptor gives.
-#[derive(Clone, Copy)]
-pub enum IsoPacketDescRead {
-    Desc(IsoPacketDesc),
-    Refused(Error),
 }

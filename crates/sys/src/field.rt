@@ -1,25 +1,14 @@
 // Little-endian numbers in a lent slice. What reads or writes is internal: it asks for room at its offset, and
 // every caller proves it.
 ghost use Rattle.std.specs.Prelude.{◌≡◌, ◌+◌, ◌≤◌, ◌<◌, ◌^◌, leb, length};
-ghost use Rattle.sys.specs.Bytes.{le, field, store, laid};
+ghost use Rattle.sys.specs.Bytes.{le, field, store, laid_fields};
 ghost use Rattle.sys.specs.Signed.{signed, unsigned, non_negative};
 
 // Whether the slice has `size` bytes at `at`.
 pub fn has_room(s: &[u8], at: usize, size: usize) -> bool
     ensures { result ≡ leb (at + size) (length s.now) }
 {
-    let n = s.len();
-    if n < size {
-        return false;
-    }
-    at <= n - size
-}
-
-// A byte as a wider number.
-pub fn wide(byte: u8) -> u64
-    ensures { (result ≡ byte) × (result < 256) }
-{
-    byte as u64
+    at.checked_add(size).is_some_and(|end| end <= s.len())
 }
 
 // Internal: the number in the `width` bytes at `at`, from its highest byte down.
@@ -27,12 +16,9 @@ pub fn get(s: &[u8], at: usize, width: usize) -> u64
     requires { (width ≤ 8) × (at + width ≤ length s.now) }
     ensures { (result ≡ field at width s.now) × (result < 256 ^ width) }
 {
-    let mut value: u64 = 0;
-    let mut i = width;
-    while 0 < i {
-        i -= 1;
-        let byte = wide(s[at + i]);
-        value = 256 * value + byte;
+    let mut value = 0;
+    for i in (0..width).rev() {
+        value = 256 * value + u64::from(s[at + i]);
     }
     value
 }
@@ -43,34 +29,25 @@ pub fn put(s: &mut [u8], at: usize, width: usize, value: u64)
     ensures { s.new ≡ store at (le width value) s.old }
 {
     let mut rest = value;
-    let mut i = 0;
-    while i < width {
-        s[at + i] = (rest % 256) as u8;
+    for byte in s[at..at + width].iter_mut() {
+        *byte = (rest % 256) as u8;
         rest /= 256;
-        i += 1;
     }
 }
 
 // The signed number that stands as `bits`.
+#[tactic(auto, unfolding(crate::specs::Signed::signed))]
 pub fn to_signed(bits: u32) -> i32
     ensures { result ≡ signed bits }
 {
-    if bits < 2147483648 {
-        bits as i32
-    } else {
-        -1 - ((4294967295 - bits) as i32)
-    }
+    bits.cast_signed()
 }
 
 // The number below 2^32 that stands for `x`.
 pub fn to_unsigned(x: i32) -> u32
     ensures { result ≡ unsigned x }
 {
-    if x < 0 {
-        4294967295 - ((-1 - x) as u32)
-    } else {
-        x as u32
-    }
+    x.cast_unsigned()
 }
 
 // Internal: the byte at `at`.
@@ -109,7 +86,7 @@ pub fn get_i32(s: &[u8], at: usize) -> i32
 pub fn non_negative(x: i32) -> u64
     ensures { result ≡ non_negative x }
 {
-    if x < 0 { 0 } else { x as u64 }
+    u64::try_from(x).unwrap_or(0)
 }
 
 // Internal: stores an unsigned number in the 4 bytes at `at`.
@@ -120,18 +97,14 @@ pub fn put_u32(s: &mut [u8], at: usize, value: u32)
     put(s, at, 4, value as u64)
 }
 
-// Internal: stores numbers one after the other from `at` on, each in as many bytes as its width says.
-pub fn lay(s: &mut [u8], at: usize, widths: &[usize], values: &[u64])
-    requires widths_len { length widths.now ≡ length values.now }
-    requires values_in_bounds { at + length (laid widths.now values.now) ≤ length s.old }
-    ensures { s.new ≡ store at (laid widths.now values.now) s.old }
+// Internal: stores numbers one after the other from `at` on, each with its width in bytes before it.
+pub fn lay(s: &mut [u8], at: usize, fields: &[(usize, u64)])
+    requires { at + length (laid_fields fields.now) ≤ length s.old }
+    ensures { s.new ≡ store at (laid_fields fields.now) s.old }
 {
     let mut next = at;
-    let mut i = 0;
-    while i < widths.len() {
-        let width = widths[i];
-        put(s, next, width, values[i]);
+    for &(width, value) in fields {
+        put(s, next, width, value);
         next += width;
-        i += 1;
     }
 }

@@ -1,8 +1,6 @@
 // The URB header, and reading and writing it in a lent slice.
 ghost use Rattle.std.specs.Prelude.{◌≡◌, ◌+◌, ◌≤◌, length};
-ghost use Rattle.sys.specs.Bytes.{store, field};
-ghost use Rattle.sys.specs.Signed.{signed};
-ghost use Rattle.sys.specs.Header.{status_at, buffer_length_at, actual_length_at, error_count_at, cookie_at};
+ghost use Rattle.sys.specs.Bytes.{store};
 ghost use Rattle.sys.specs.Header.{header_at, header_read, header_bytes, header_size, slot_header};
 
 use crate::field::{get_i32, get_u8, get_u32, get_u64, has_room, lay, to_unsigned};
@@ -85,67 +83,30 @@ impl Urb {
         requires { at + header_size ≤ length s.old }
         ensures { s.new ≡ store at (header_bytes self) s.old }
     {
-        let widths: [usize; 14] = [1, 1, 2, 4, 4, 4, 8, 4, 4, 4, 4, 4, 4, 8];
-        let values: [u64; 14] = [
-            self.typ as u64,
-            self.endpoint as u64,
-            0,
-            to_unsigned(self.status) as u64,
-            self.flags as u64,
-            0,
-            self.buffer,
-            to_unsigned(self.buffer_length) as u64,
-            to_unsigned(self.actual_length) as u64,
-            to_unsigned(self.start_frame) as u64,
-            to_unsigned(self.number_of_packets) as u64,
-            to_unsigned(self.error_count) as u64,
-            self.signr as u64,
-            self.usercontext,
-        ];
-        lay(s, at, &widths, &values)
-    }
-
-    // Internal: the status in the header that stands at `at`.
-    pub fn status_at(s: &[u8], at: usize) -> i32
-        requires { at + header_size ≤ length s.now }
-        ensures { result ≡ signed (field (at + status_at) 4 s.now) }
-    {
-        get_i32(s, at + Urb::STATUS)
-    }
-
-    // Internal: the buffer length in the header that stands at `at`.
-    pub fn buffer_length_at(s: &[u8], at: usize) -> i32
-        requires { at + header_size ≤ length s.now }
-        ensures { result ≡ signed (field (at + buffer_length_at) 4 s.now) }
-    {
-        get_i32(s, at + Urb::BUFFER_LENGTH)
-    }
-
-    // Internal: the actual length in the header that stands at `at`.
-    pub fn actual_length_at(s: &[u8], at: usize) -> i32
-        requires { at + header_size ≤ length s.now }
-        ensures { result ≡ signed (field (at + actual_length_at) 4 s.now) }
-    {
-        get_i32(s, at + Urb::ACTUAL_LENGTH)
-    }
-
-    // Internal: the error count in the header that stands at `at`.
-    pub fn error_count_at(s: &[u8], at: usize) -> i32
-        requires { at + header_size ≤ length s.now }
-        ensures { result ≡ signed (field (at + error_count_at) 4 s.now) }
-    {
-        get_i32(s, at + Urb::ERROR_COUNT)
-    }
-
-    // Internal: the cookie in the header that stands at `at`.
-    pub fn usercontext_at(s: &[u8], at: usize) -> u64
-        requires { at + header_size ≤ length s.now }
-        ensures { result ≡ field (at + cookie_at) 8 s.now }
-    {
-        get_u64(s, at + Urb::USERCONTEXT)
+        lay(
+            s,
+            at,
+            &[
+                (1, self.typ as u64),
+                (1, self.endpoint as u64),
+                (2, 0),
+                (4, to_unsigned(self.status) as u64),
+                (4, self.flags as u64),
+                (4, 0),
+                (8, self.buffer),
+                (4, to_unsigned(self.buffer_length) as u64),
+                (4, to_unsigned(self.actual_length) as u64),
+                (4, to_unsigned(self.start_frame) as u64),
+                (4, to_unsigned(self.number_of_packets) as u64),
+                (4, to_unsigned(self.error_count) as u64),
+                (4, self.signr as u64),
+                (8, self.usercontext),
+            ],
+        )
     }
 
     // Internal: the header that stands at `at`.
+    #[tactic(auto, unfolding(crate::specs::Header::header_at))]
     pub fn load(s: &[u8], at: usize) -> Urb
         requires { at + header_size ≤ length s.now }
         ensures { result ≡ header_at at s.now }
@@ -153,35 +114,28 @@ impl Urb {
         Urb {
             typ: get_u8(s, at + Urb::TYPE),
             endpoint: get_u8(s, at + Urb::ENDPOINT),
-            status: Urb::status_at(s, at),
+            status: get_i32(s, at + Urb::STATUS),
             flags: get_u32(s, at + Urb::FLAGS),
             buffer: get_u64(s, at + Urb::BUFFER),
-            buffer_length: Urb::buffer_length_at(s, at),
-            actual_length: Urb::actual_length_at(s, at),
+            buffer_length: get_i32(s, at + Urb::BUFFER_LENGTH),
+            actual_length: get_i32(s, at + Urb::ACTUAL_LENGTH),
             start_frame: get_i32(s, at + Urb::START_FRAME),
             number_of_packets: get_i32(s, at + Urb::NUMBER_OF_PACKETS),
-            error_count: Urb::error_count_at(s, at),
+            error_count: get_i32(s, at + Urb::ERROR_COUNT),
             signr: get_u32(s, at + Urb::SIGNR),
-            usercontext: Urb::usercontext_at(s, at),
+            usercontext: get_u64(s, at + Urb::USERCONTEXT),
         }
     }
 
     // The header that stands at `at`, where the slice has room for one there.
     #[tactic(auto, unfolding(crate::specs::Header::header_read))]
-    pub fn read(s: &[u8], at: usize) -> UrbRead
+    pub fn read(s: &[u8], at: usize) -> Result<Urb, Error>
         ensures { result ≡ header_read at s.now }
     {
         if has_room(s, at, Urb::SIZE) {
-            UrbRead::Header(Urb::load(s, at))
+            Ok(Urb::load(s, at))
         } else {
-            UrbRead::Refused(Error::BlockLength)
+            Err(Error::BlockLength)
         }
     }
-}
-
-// What reading a header gives.
-#[derive(Clone, Copy)]
-pub enum UrbRead {
-    Header(Urb),
-    Refused(Error),
 }

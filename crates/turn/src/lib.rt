@@ -13,18 +13,16 @@ ghost use Rattle.ledger.specs.Turn.{drained as drained_ledger, underrun, on_unde
 
 use error::Error;
 use front::{silence_taken, take_front, take_silent};
-use gate::{Gate, Lent, idle_test, refused};
+use gate::{idle_gate, refused};
 use layout::Underrun;
-use stream::{Flags, Reply, Stream};
+use stream::{Flags, IsoStats, Reply, Stream};
 
 // Internal: whether the stream has drained: started, armed and none out.
 fn drained(s: Stream) -> bool
     requires { sound s ≡ true }
     ensures { result ≡ drained_ledger (view s) }
 {
-    let flags = s.flags;
-    let ring = s.ring;
-    flags.started && flags.armed && ring.in_flight == 0
+    s.flags.started && s.flags.armed && s.ring.in_flight == 0
 }
 
 // Internal: counts an underrun, once for each time that the stream drains: only an acceptance arms it again.
@@ -32,15 +30,15 @@ fn count_underrun(s: Stream) -> Stream
     requires { sound s ≡ true }
     ensures { result ≡ stored s (underrun (view s)) }
 {
-    let hand = s.hand;
-    let was = s.flags;
     let flags = Flags {
-        started: was.started,
         armed: false,
+        ..s.flags
     };
-    let mut stats = s.stats;
-    stats.underruns = std::num::wrapping_add_u64(stats.underruns, 1);
-    Stream::new(s.setup, s.ring, hand, flags, stats)
+    let stats = IsoStats {
+        underruns: s.stats.underruns.wrapping_add(1),
+        ..s.stats
+    };
+    Stream { flags, stats, ..s }
 }
 
 // Internal: counts an underrun; then the policy decides.
@@ -50,15 +48,11 @@ fn on_underrun(s: Stream, block: &mut [u8]) -> Reply
         result block.new }
 {
     let counted = count_underrun(s);
-    let setup = s.setup;
-    let policy = setup.underrun;
-    match policy {
+    match s.setup.underrun {
         Underrun::Continue => take_front(counted),
         Underrun::FillSilence => {
             let done = take_silent(counted, 1);
-            let after = done.stream;
-            let hand = after.hand;
-            silence_taken(setup, hand, block);
+            silence_taken(s.setup, done.stream.hand, block);
             done
         }
         Underrun::Error => refused(counted, Error::Underrun(counted.stats.underruns)),
@@ -81,17 +75,8 @@ fn turn_idle(s: Stream, block: &mut [u8]) -> Reply
 pub fn turn(s: Stream, block: &mut [u8]) -> Reply
     ensures { Told (Call.turn block.old) s result.answer result.stream block.new }
 {
-    let setup = s.setup;
-    let ring = s.ring;
-    let hand = s.hand;
-    let n = setup.slots;
-    let home = ring.home(n);
-    let is_sound = setup.admissible()
-        & ring.hand_sound(n, hand)
-        & ring.out_sound(n, home)
-        & ring.count_sound(n, hand);
-    match idle_test(is_sound, setup, hand, Lent::Block(block.len())) {
-        Gate::Refused(e) => refused(s, e),
-        Gate::Open => turn_idle(s, block),
+    match idle_gate(&s, Some(block.len())) {
+        Err(e) => refused(s, e),
+        Ok(()) => turn_idle(s, block),
     }
 }

@@ -1,5 +1,4 @@
-// A header read through a view of its block: the view is taken apart, and the field is read by the header's own
-// function.
+// A header read through a view of its block: each field by its offset there.
 #![tactic(auto)]
 
 ghost use Rattle.std.specs.Prelude.{◌≡◌, ◌+◌, ◌≤◌, length};
@@ -8,7 +7,7 @@ ghost use Rattle.urb_view.specs.Viewed.{fields_of, fields_read};
 
 use error::Error;
 use sys::Urb;
-use sys::field::has_room;
+use sys::field::{get_i32, get_u64, has_room};
 
 // A header of a block: the block, and the offset where the header starts.
 #[derive(Clone, Copy)]
@@ -27,13 +26,6 @@ pub struct UrbFields {
     pub usercontext: u64,
 }
 
-// What reading them gives.
-#[derive(Clone, Copy)]
-pub enum UrbFieldsRead {
-    Fields(UrbFields),
-    Refused(Error),
-}
-
 impl<'a> UrbView<'a> {
     pub fn new(block: &'a [u8], at: usize) -> UrbView<'a>
         ensures { result ≡ record { block = block.entry; at = at } }
@@ -47,7 +39,7 @@ impl<'a> UrbView<'a> {
         requires { self.at + header_size ≤ length self.block.now }
         ensures { result ≡ (header_at self.entry.at self.entry.block.now).status }
     {
-        Urb::status_at(self.block, self.at)
+        get_i32(self.block, self.at + Urb::STATUS)
     }
 
     // Internal: its buffer length.
@@ -56,7 +48,7 @@ impl<'a> UrbView<'a> {
         requires { self.at + header_size ≤ length self.block.now }
         ensures { result ≡ (header_at self.entry.at self.entry.block.now).buffer_length }
     {
-        Urb::buffer_length_at(self.block, self.at)
+        get_i32(self.block, self.at + Urb::BUFFER_LENGTH)
     }
 
     // Internal: its actual length.
@@ -65,7 +57,7 @@ impl<'a> UrbView<'a> {
         requires { self.at + header_size ≤ length self.block.now }
         ensures { result ≡ (header_at self.entry.at self.entry.block.now).actual_length }
     {
-        Urb::actual_length_at(self.block, self.at)
+        get_i32(self.block, self.at + Urb::ACTUAL_LENGTH)
     }
 
     // Internal: its error count.
@@ -74,7 +66,7 @@ impl<'a> UrbView<'a> {
         requires { self.at + header_size ≤ length self.block.now }
         ensures { result ≡ (header_at self.entry.at self.entry.block.now).error_count }
     {
-        Urb::error_count_at(self.block, self.at)
+        get_i32(self.block, self.at + Urb::ERROR_COUNT)
     }
 
     // Internal: its cookie.
@@ -83,7 +75,7 @@ impl<'a> UrbView<'a> {
         requires { self.at + header_size ≤ length self.block.now }
         ensures { result ≡ (header_at self.entry.at self.entry.block.now).usercontext }
     {
-        Urb::usercontext_at(self.block, self.at)
+        get_u64(self.block, self.at + Urb::USERCONTEXT)
     }
 }
 
@@ -105,12 +97,12 @@ pub fn fields(block: &[u8], at: usize) -> UrbFields
 
 // The fields of the header that stands at `at`, where the block has room for one there.
 #[tactic(auto, unfolding(crate::specs::Viewed::fields_read))]
-pub fn read(block: &[u8], at: usize) -> UrbFieldsRead
+pub fn read(block: &[u8], at: usize) -> Result<UrbFields, Error>
     ensures { result ≡ fields_read at block.now }
 {
     if has_room(block, at, Urb::SIZE) {
-        UrbFieldsRead::Fields(fields(block, at))
+        Ok(fields(block, at))
     } else {
-        UrbFieldsRead::Refused(Error::BlockLength)
+        Err(Error::BlockLength)
     }
 }

@@ -1,16 +1,13 @@
 // The ten calls. Each reads the record from its image, makes the call by value and stores the record's image again.
 // Bytes that are no image are read as a record that the call refuses with 8, and C is told 31.
-ghost use Rattle.std.specs.Prelude.{[]};
+ghost use Rattle.std.specs.Prelude.{[], Ok, Err};
 ghost use Rattle.ledger.specs.Calls.{Call};
-ghost use Rattle.stream.specs.declared.Reaping.{Reaping};
-ghost use Rattle.stream.specs.declared.Submission.{Submission};
 ghost use Rattle.from_c.specs.Told.{Returned};
 ghost use Rattle.from_c.specs.Calls.{made_from_c};
 
 use c_lists::{commit_listed, stop_listed};
 use from_c::answered;
 use image::read_image;
-use stream::{Reaping, Submission};
 
 // The next slot to fill or to submit.
 #[unsafe(no_mangle)]
@@ -70,11 +67,11 @@ pub extern "C" fn usbfs_iso_submitted_accepted(
     block: &mut [u8],
     out: &mut [u8],
 ) -> u32
-    ensures { Returned (made_from_c (Call.submitted Submission.Accepted block.old)
+    ensures { Returned (made_from_c (Call.submitted (Ok tt) block.old)
         image.old out.old) result
         image.new block.new out.new }
 {
-    let reply = submitted::submitted(read_image(image), Submission::Accepted, block);
+    let reply = submitted::submitted(read_image(image), Ok(()), block);
     answered(reply, image, out)
 }
 
@@ -86,11 +83,11 @@ pub extern "C" fn usbfs_iso_submitted_errno(
     block: &mut [u8],
     out: &mut [u8],
 ) -> u32
-    ensures { Returned (made_from_c (Call.submitted (Submission.Errno error) block.old)
+    ensures { Returned (made_from_c (Call.submitted (Err error) block.old)
         image.old out.old) result
         image.new block.new out.new }
 {
-    let reply = submitted::submitted(read_image(image), Submission::Errno(error), block);
+    let reply = submitted::submitted(read_image(image), Err(error), block);
     answered(reply, image, out)
 }
 
@@ -102,11 +99,11 @@ pub extern "C" fn usbfs_iso_reaped_errno(
     block: &[u8],
     out: &mut [u8],
 ) -> u32
-    ensures { Returned (made_from_c (Call.reaped (Reaping.Errno error) block.now)
+    ensures { Returned (made_from_c (Call.reaped (Err error) block.now)
         image.old out.old) result
         image.new block.now out.new }
 {
-    let reply = reaped::reaped(read_image(image), Reaping::Errno(error), block);
+    let reply = reaped::reaped(read_image(image), Err(error), block);
     answered(reply, image, out)
 }
 
@@ -118,11 +115,11 @@ pub extern "C" fn usbfs_iso_reaped_address(
     block: &[u8],
     out: &mut [u8],
 ) -> u32
-    ensures { Returned (made_from_c (Call.reaped (Reaping.Address address) block.now)
+    ensures { Returned (made_from_c (Call.reaped (Ok address) block.now)
         image.old out.old) result
         image.new block.now out.new }
 {
-    let reply = reaped::reaped(read_image(image), Reaping::Address(address as usize), block);
+    let reply = reaped::reaped(read_image(image), Ok(address as usize), block);
     answered(reply, image, out)
 }
 

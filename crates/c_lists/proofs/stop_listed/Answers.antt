@@ -1,11 +1,11 @@
 -- `stop_listed`: the numbers that are read are the front of the list, stop does with it what it does with the list, and the numbers
 -- behind it stand in their bytes. Assumes nothing.
-use mathlib.Core.Path.{◌≡◌, ap, ◌∙◌}
+use mathlib.Core.Path.{◌≡◌, refl, ap, ◌∙◌}
 use mathlib.Core.List.{List, ◌++◌}
 use Prim.Native.Nat.{ℕ, ◌≤◌}
 use native.Mathlib.Omega.{arith}
 use borrow.Author.Rules.{rules}
-use lib.ListN.{length, drop}
+use lib.ListN.{length, drop, replicate}
 use Rattle.sys.specs.Bytes.{store}
 use Rattle.stream.proofs.Arrays.{arrays}
 use Rattle.encoding.specs.Words.{words}
@@ -15,13 +15,13 @@ use Rattle.c_lists.proofs.stop_listed.Goals as goal
 pub returns : goal.returns
 returns c =
     let k = c.min-count.result in
-    let none = c.no_slots-slots.result in
+    let none : List ℕ = replicate 256 0 in
     let read = c.get_words.new.values in
     let list = c.args.list.now in
     let left = c.stop-reply.new.list in
     let kept = c.stop-reply.auto.list in
     let few : k ≤ 256 = omega arith in
-    let long : length none ≡ 256 = ap length c.no_slots-slots.ensures in
+    let long : length none ≡ 256 = refl in
     let filled : List ℕ = read ++ drop k none in
     let filled-long : length filled ≡ 256 = back_long 256 k few none long read c.get_words.auto.values in
     let after : c.put_list.new.bytes ≡ store 0 (words 8 left) list =

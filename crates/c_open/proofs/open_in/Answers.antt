@@ -1,13 +1,14 @@
 -- `c_open::open_in` meets its contract: what opens refuses is told; for the others the buffer is judged, and then block and image are written, the
 -- image being that of the opened ledger. Assumes nothing.
-use Prim.Native.Nat.{ℕ, ◌≤◌, ◌<◌}
-use mathlib.Core.Path.{◌≡◌, refl, sym, ap, ◌∙◌}
+use Rattle.std.specs.Prelude.{Result, Ok}
+use Rattle.std.proofs.Common.{rules}
+use Prim.Native.Nat.{ℕ, ◌≤◌}
+use mathlib.Core.Path.{◌≡◌, sym, ap, ◌∙◌}
 use mathlib.Core.Bool.{true}
 use mathlib.Core.List.{List, []}
-use borrow.Author.Tests.{lt-ltb, le-ltb}
+use borrow.Author.Tests.{le-ltb}
 use lib.ListN.{length}
 use Rattle.error.specs.declared.Error.{Error}
-use Rattle.layout.specs.declared.Laid.{Laid}
 use Rattle.layout.specs.declared.RingLayout.{RingLayout}
 use Rattle.layout.specs.declared.Setup.{Setup}
 use Rattle.layout.specs.Opening.{admissible}
@@ -28,19 +29,12 @@ use Rattle.history.proofs.Logs.{in-step-shown}
 use Rattle.image.specs.Image.{image, image_of, ledger_image}
 use Rattle.image.specs.Reading.{image_size}
 use Rattle.from_c.specs.Told.{FromC, told, Returned}
-use Rattle.from_c.specs.FromC.{not_an_image, answered_by, Writable}
+use Rattle.from_c.specs.FromC.{answered_by, not_an_image, Writable}
 use Rattle.c_open.specs.Open.{opened_from_c}
 use Rattle.c_open.proofs.open_in.Goals as goal
 
--- a refusal of opening's own
-refused : (s : Setup) (block buffer out : List ℕ) (o : Laid) (e : Error) (n : ℕ) (out' : List ℕ) → o ≡ opens s (length block) → o ≡ Laid.Refused e
-    → Returned (told (Answer.Refused e) [] [] out) n [] [] out' → Returned (opened_from_c (opens s (length block)) s block buffer out) n buffer block out'
-unfolding opened_from_c told
-refused s block buffer out o e n out' is q t =
-    rw (sym is ∙ q) (record { returned = t.returned; image = refl; lent = refl; out = t.out })
-
-module _ (s : Setup) (block buffer out : List ℕ) (o : Laid) (l : RingLayout) (is : o ≡ opens s (length block)) (laid : o ≡ Laid.Layout l) where
-  passed : opens s (length block) ≡ Laid.Layout l
+module _ (s : Setup) (block buffer out : List ℕ) (o : Result RingLayout Error) (l : RingLayout) (is : o ≡ opens s (length block)) (laid : o ≡ Ok l) where
+  passed : opens s (length block) ≡ Ok l
   passed = sym is ∙ laid
 
   ok : admissible s ≡ true
@@ -48,14 +42,6 @@ module _ (s : Setup) (block buffer out : List ℕ) (o : Laid) (l : RingLayout) (
 
   few : s.slots ≤ 256
   few = (admits s ok).limits.slots
-
-  -- a buffer too short
-  short : (n size : ℕ) (out' : List ℕ) → size ≡ image_size s.slots → length buffer < size
-      → Returned (told (Answer.Refused Error.NotAnImage) [] [] out) n [] [] out' → Returned (opened_from_c (opens s (length block)) s block buffer out) n buffer block out'
-  unfolding opened_from_c not_an_image told
-  short n size out' e h t =
-      let off : length buffer < image_size s.slots = rw (← e) h in
-      rw (passed, lt-ltb (length buffer) (image_size s.slots) off) (record { returned = t.returned; image = refl; lent = refl; out = t.out })
 
   done : open_outcome s block ≡ record { answer = Answer.Done; stream = opened_stream s; block = opened_block s }
   done = admissible-done s block ok (opened-layout s (length block) l passed).length
@@ -95,23 +81,22 @@ module _ (s : Setup) (block buffer out : List ℕ) (o : Laid) (l : RingLayout) (
 
 pub size-requires : goal.size-requires
 size-requires c =
-    few c.args.setup c.args.block.now c.args.image.now c.args.out.now _ _ c.opens.ensures c.in-Layout.is
-
-pub returns-then-image-size : goal.returns-then-image-size
-returns-then-image-size c =
-    short c.args.setup c.args.block.now c.args.image.now c.args.out.now _ _ c.opens.ensures c.in-Layout.is
-    _ _ _ c.size.ensures c.if-image-size.true c.not_an_image.ensures
+    few c.args.setup c.args.block.now c.args.image.now c.args.out.now _ _ c.opens.ensures c.in_default.is
 
 pub answered-requires : goal.answered-requires
 answered-requires c =
-    ready c.args.setup c.args.block.now c.args.image.now c.args.out.now _ _ c.opens.ensures c.in-Layout.is
-    _ c.open-reply.ensures.0 c.open-reply.ensures.1 _ c.size.ensures c.if-image-size.false
+    ready c.args.setup c.args.block.now c.args.image.now c.args.out.now _ _ c.opens.ensures c.in_default.is
+    _ c.open.ensures.0 c.open.ensures.1 _ c.size.ensures c.if-image-size.false
 
-pub returns-in-Refused : goal.returns-in-Refused
-returns-in-Refused c =
-    refused _ _ _ _ _ _ _ _ c.opens.ensures c.in-Refused.is c.tell.ensures
+pub returns : goal.returns
+returns c =
+    written c.args.setup c.args.block.now c.args.image.now c.args.out.now _ _ c.opens.ensures c.in_default.is
+    _ c.open.ensures.0 c.open.ensures.1 _ _ _ _ _ c.size.ensures c.if-image-size.false c.open.ensures.2 c.answered.ensures
 
-pub returns-else-image-size : goal.returns-else-image-size
-returns-else-image-size c =
-    written c.args.setup c.args.block.now c.args.image.now c.args.out.now _ _ c.opens.ensures c.in-Layout.is
-    _ c.open-reply.ensures.0 c.open-reply.ensures.1 _ _ _ _ _ c.size.ensures c.if-image-size.false c.open-reply.ensures.2 c.answered.ensures
+pub returns-in-Err : goal.returns-in-Err
+unfolding opened_from_c not_an_image told
+returns-in-Err c = search rules
+
+pub returns-then-image-size : goal.returns-then-image-size
+unfolding opened_from_c not_an_image told
+returns-then-image-size c = search rules

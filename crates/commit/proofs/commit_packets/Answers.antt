@@ -1,28 +1,28 @@
 -- `commit::commit_packets` meets its contract: the gate refuses, or leaves the slot in hand to its own rule.
 -- Assumes nothing.
+use Rattle.std.specs.Prelude.{Some}
 use mathlib.Core.Path.{refl, sym, ◌∙◌}
 use Rattle.stream.proofs.Arrays.{arrays}
 use Rattle.ledger.specs.Calls.{commit_packets, rule, lent_to}
 use Rattle.ledger.specs.Commit as Commit
-use Rattle.gate.specs.declared.Lent.{Lent}
 use Rattle.gate.proofs.Gates.{held-open, held-refused, held-told}
 use Rattle.commit.proofs.commit_packets.Goals as goal
 
 pub packets_held-requires : goal.packets_held-requires
 packets_held-requires c =
     let a = c.args in
-    held-open a.s (Lent.Block _) a.block.now refl _ (sym c.slot_in_hand.ensures ∙ c.in-Slot.is)
+    held-open a.s (Some _) a.block.now refl _ (sym c.held_gate.ensures ∙ c.in-Ok.is)
 
-pub returns-in-Slot : goal.returns-in-Slot
+pub returns-in-Ok : goal.returns-in-Ok
 unfolding rule lent_to Commit.commit_packets
-returns-in-Slot c =
+returns-in-Ok c =
     let a = c.args in
-    let opened = sym c.slot_in_hand.ensures ∙ c.in-Slot.is in
-    held-told a.s (Lent.Block _) (commit_packets a.lengths.now a.block.now) (Commit.packets_held a.lengths.now) refl refl _ opened _ _
+    let opened = sym c.held_gate.ensures ∙ c.in-Ok.is in
+    held-told a.s (Some _) (commit_packets a.lengths.now a.block.now) (Commit.packets_held a.lengths.now) refl refl _ opened _ _
     c.packets_held.ensures
 
-pub returns-in-Refused : goal.returns-in-Refused
+pub returns-in-Err : goal.returns-in-Err
 unfolding rule lent_to Commit.commit_packets
-returns-in-Refused c =
-    held-refused c.args.s (Lent.Block _) (commit_packets c.args.lengths.now c.args.block.now) (Commit.packets_held c.args.lengths.now) refl refl
-    (arrays c.args.s c.well_formed.0) _ (sym c.slot_in_hand.ensures ∙ c.in-Refused.is) _ c.refused.ensures
+returns-in-Err c =
+    held-refused c.args.s (Some _) (commit_packets c.args.lengths.now c.args.block.now) (Commit.packets_held c.args.lengths.now) refl refl
+    (arrays c.args.s c.well_formed.0) _ (sym c.held_gate.ensures ∙ c.in-Err.is) _ c.refused.ensures

@@ -1,29 +1,26 @@
 -- `control::start` meets its contract: refused by the gate; else only the flags differ, and each way to `armed` knows whether the stream
 -- was started. Assumes nothing.
-use mathlib.Core.Path.{◌≡◌, refl, sym, ◌∙◌}
+use mathlib.Core.Path.{◌≡◌, refl, ◌∙◌}
 use mathlib.Core.Bool.{false, cond}
+use Rattle.stream.specs.Parts.{with_state}
 use Rattle.stream.proofs.Arrays.{arrays}
 use Rattle.ledger.specs.Calls.{start, rule, lent_to}
 use Rattle.ledger.specs.Control as Control
-use Rattle.gate.specs.declared.Lent.{Lent}
-use Rattle.gate.proofs.Gates.{idle-open, idle-refused, idle-told}
+use Rattle.control.proofs.Gated.{closed, told}
 use Rattle.control.proofs.Unmoved.{started}
 use Rattle.control.proofs.start.Goals as goal
-use Rattle.control.proofs.start.Goals.{then-flags, else-flags}
+use Rattle.control.proofs.start.Goals.{then-s, else-s}
 
-pub returns-in-Refused : goal.returns-in-Refused
+pub returns-in-Err : goal.returns-in-Err
 unfolding rule lent_to Control.start
-returns-in-Refused c =
-    idle-refused c.args.s Lent.Nothing start Control.start_idle refl tt (arrays c.args.s c.well_formed.0) _
-    (sym c.idle_gate.ensures ∙ c.in-Refused.is) _ c.refused.ensures
+returns-in-Err c =
+    closed c.args.s c.idle_gate.ensures start Control.start_idle refl (arrays c.args.s c.well_formed.0) c.in-Err.is _ c.refused.ensures
 
-pub returns-after-flags : goal.returns-after-flags
-unfolding rule lent_to Control.start
-returns-after-flags c =
+pub returns-after-s : goal.returns-after-s
+unfolding rule lent_to Control.start with_state
+returns-after-s c =
     let s = c.args.s in
-    let opened = sym c.idle_gate.ensures ∙ c.in-Open.is in
-    let ok = (idle-open s Lent.Nothing (lent_to start) tt opened).0 in
-    let armed : c.if-flags.armed ≡ cond s.flags.started s.flags.armed false =
-    elim c.if-flags.branch [ then-flags w ↦ rw w.if-flags.true w.armed-is | else-flags w ↦ rw w.if-flags.false w.armed-is ] in
-    idle-told s Lent.Nothing start Control.start_idle refl tt opened _ _
-    (started s ok (arrays s c.well_formed.0) _ armed _ c.with_flags.ensures)
+    let armed : c.if-s.flags ≡ cond s.flags.started s.flags.armed false =
+    elim c.if-s.branch [ then-s w ↦ rw w.if-s.true w.flags-is | else-s w ↦ rw w.if-s.false (w.flags-is ∙ w.if-s.false) ] in
+    told s c.idle_gate.ensures start Control.start_idle refl c.in-Ok.is _ _
+    (λ ok. started s ok (arrays s c.well_formed.0) _ armed)

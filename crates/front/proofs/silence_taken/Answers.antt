@@ -1,4 +1,5 @@
 -- `front::silence_taken` meets its contract: a silent hand's slot is filled, and any other hand leaves the block. Assumes nothing.
+use mathlib.Core.Logic.{inl, inr}
 use mathlib.Core.Path.{refl}
 use borrow.Author.Tests.{eq-eqb}
 use Rattle.ring.specs.Slots.{holds}
@@ -12,15 +13,7 @@ fill_silence-requires c =
 
 pub returns-in-Idle : goal.returns-in-Idle
 unfolding after_silence
-returns-in-Idle c = rw c.in-Idle.is
-
-pub returns-in-Held : goal.returns-in-Held
-unfolding after_silence
-returns-in-Held c = rw c.in-Held.is
-
-pub returns-in-Sending : goal.returns-in-Sending
-unfolding after_silence
-returns-in-Sending c = rw c.in-Sending.is
+returns-in-Idle c = elim c.in-Idle.is [ inl e ↦ rw e | inr other ↦ elim other [ inl e ↦ rw e.1 | inr e ↦ rw e.1 ] ]
 
 pub returns-in-Silent : goal.returns-in-Silent
 unfolding after_silence

@@ -12,10 +12,10 @@ take_free-taken-requires c =
     let f = facts c.args.s c.requires.0 (arrays c.args.s c.well_formed.0) in
     (f.short, own-tabled c.args.s c.requires.0 (arrays c.args.s c.well_formed.0), λ slot rest q. (front-free f slot rest q).1)
 
-pub returns-in-Slot : goal.returns-in-Slot
-returns-in-Slot c =
-    silent-slot c.args.s c.requires.0 (arrays c.args.s c.well_formed.0) c.requires.1 _ c.take_free-taken.ensures _ c.in-Slot.is c.args.left _ refl c.with_hand.ensures
+pub returns-in-Some : goal.returns-in-Some
+returns-in-Some c =
+    silent-slot c.args.s c.requires.0 (arrays c.args.s c.well_formed.0) c.requires.1 _ c.take_free-taken.ensures _ c.in-Some.is c.args.left _ refl c.with_hand.ensures
 
-pub returns-in-Nothing : goal.returns-in-Nothing
-returns-in-Nothing c =
-    silent-nothing c.args.s c.requires.0 (arrays c.args.s c.well_formed.0) c.requires.1 _ c.take_free-taken.ensures c.in-Nothing.is _ refl refl c.args.left
+pub returns-in-None : goal.returns-in-None
+returns-in-None c =
+    silent-nothing c.args.s c.requires.0 (arrays c.args.s c.well_formed.0) c.requires.1 _ c.take_free-taken.ensures c.in-None.is _ refl refl c.args.left

@@ -3,6 +3,7 @@
 use mathlib.Core.Path.{ap, ◌∙◌}
 use Prim.Native.Nat.{ℕ}
 use native.Mathlib.Omega.{arith}
+use borrow.Author.Rules.{rules}
 use Rattle.sys.specs.Header.{header_at}
 use Rattle.sys.specs.Signed.{non_negative}
 use Rattle.sys.proofs.Signs.{read_back}
@@ -31,10 +32,12 @@ returns c =
     let header = c.fields-header.ensures ∙ ap (λ (at : Places). fields_of (header_at at.header block)) is in
     let found = c.fields-header.result in
     λ i. record {
-      status = (read_back found.status c.struct_told-3-1.given.0.1 ∙ ap (λ (u : UrbFields). u.status) header) i;
-      actual_bytes = (c.non_negative.ensures ∙ ap non_negative (read_back found.actual_length c.struct_told-1.given.1.1.0.1 ∙ ap (λ (u : UrbFields). u.actual_length) header)) i;
+      status = (read_back found.status (search rules) ∙ ap (λ (u : UrbFields). u.status) header) i;
+      actual_bytes = (c.non_negative.ensures
+          ∙ ap non_negative (read_back found.actual_length (search rules) ∙ ap (λ (u : UrbFields). u.actual_length) header)) i;
       requested_bytes = (ap (λ (m : Sums). m.requested) sums ∙ ap requested packets) i;
       short_bytes = (ap (λ (m : Sums). m.short) sums ∙ ap short packets) i;
-      packet_errors = (c.non_negative-2.ensures ∙ ap non_negative (read_back found.error_count c.struct_told-2-1.given.1.1.1.0.1 ∙ ap (λ (u : UrbFields). u.error_count) header)) i;
+      packet_errors = (c.non_negative-2.ensures
+          ∙ ap non_negative (read_back found.error_count (search rules) ∙ ap (λ (u : UrbFields). u.error_count) header)) i;
       was_discarded = c.args.was_discarded;
     }

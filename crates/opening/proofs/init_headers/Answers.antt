@@ -12,7 +12,7 @@ use Rattle.opening.proofs.init_headers.Goals as goal
 
 pub loop-i-init : goal.loop-i-init
 unfolding with_headers
-loop-i-init c = c.clear.ensures ∙ ap (λ (n : ℕ). replicate n 0) c.requires.1
+loop-i-init c = c.fill.ensures.after (λ y is. is) ∙ ap (λ (n : ℕ). replicate n 0) c.requires.1
 
 pub write-requires : goal.write-requires
 write-requires c = let placed = c.places-places.ensures in omega arith

@@ -8,16 +8,16 @@ use Rattle.opening.proofs.open.Goals as goal
 
 pub init_headers-requires : goal.init_headers-requires
 init_headers-requires c =
-    let granted = opened-layout _ _ _ (sym c.opens.ensures ∙ c.in-Layout.is) in
+    let granted = opened-layout _ _ _ (sym c.opens.ensures ∙ c.in-Ok.is) in
     (granted.admissible, granted.length)
 
 pub opened-requires : goal.opened-requires
-opened-requires c = (admits _ (opened-layout _ _ _ (sym c.opens.ensures ∙ c.in-Layout.is)).admissible).limits.slots
+opened-requires c = (admits _ (opened-layout _ _ _ (sym c.opens.ensures ∙ c.in-Ok.is)).admissible).limits.slots
 
-pub returns-in-Refused : goal.returns-in-Refused
+pub returns-in-Err : goal.returns-in-Err
 unfolding open_outcome opened_or
-returns-in-Refused c = rw (sym c.opens.ensures ∙ c.in-Refused.is) (refl, c.no_stream.ensures, refl)
+returns-in-Err c = rw (sym c.opens.ensures ∙ c.in-Err.is) (refl, c.no_stream.ensures, refl)
 
-pub returns-in-Layout : goal.returns-in-Layout
+pub returns-in-Ok : goal.returns-in-Ok
 unfolding open_outcome opened_or
-returns-in-Layout c = rw (sym c.opens.ensures ∙ c.in-Layout.is) (refl, c.opened.ensures, c.init_headers.ensures)
+returns-in-Ok c = rw (sym c.opens.ensures ∙ c.in-Ok.is) (refl, c.opened.ensures, c.init_headers.ensures)

@@ -1,6 +1,7 @@
 -- `opening::opens` meets its contract: the limits come first in the list of tests, then 6, then 7, which decides whether the values are
 -- admissible. Assumes nothing.
 use Prim.Native.Nat.{ℕ}
+use Rattle.std.proofs.Common.{rules}
 use mathlib.Core.Path.{◌≡◌, sym, ◌∙◌}
 use mathlib.Core.Bool.{Bool, true, false, not}
 use mathlib.Core.List.{[], ◌∷◌}
@@ -27,12 +28,12 @@ bad : (s : Setup) (r : Bool) → first (limits s) ≡ none → r ≡ admissible 
 bad s r p e = e ∙ base-decides s p
 
 pub layout_of-layout-requires : goal.layout_of-layout-requires
-layout_of-layout-requires c = limited _ (passed_none _ _ c.test_limits.ensures c.in-Passed.is)
+layout_of-layout-requires c = limited _ (passed_none _ _ c.test_limits.ensures c.in_ok-test_limits.was)
 
 pub returns-then-block_len-layout : goal.returns-then-block_len-layout
 unfolding opens refusal_of laid block_length first
 returns-then-block_len-layout c =
-    let p : first (limits c.args.setup) ≡ none = passed_none _ _ c.test_limits.ensures c.in-Passed.is in
+    let p : first (limits c.args.setup) ≡ none = passed_none _ _ c.test_limits.ensures c.in_ok-test_limits.was in
     let whole : c.layout_of-layout.result.total_bytes ≡ total_of c.args.setup = layout-total _ _ c.layout_of-layout.ensures in
     rw (first-late _ _ p, ← whole, ne_eqb _ _ c.if-block_len-layout.true)
 
@@ -40,19 +41,19 @@ pub returns-then-not-admissible : goal.returns-then-not-admissible
 unfolding laid first
 returns-then-not-admissible c =
     let s = c.args.setup in
-    let p : first (limits s) ≡ none = passed_none _ _ c.test_limits.ensures c.in-Passed.is in
+    let p : first (limits s) ≡ none = passed_none _ _ c.test_limits.ensures c.in_ok-test_limits.was in
     let b = bad s c.admissible.result p c.admissible.ensures in
     let j = judged s c.args.block_len true p (c.if-block_len-layout.false ∙ layout-total _ _ c.layout_of-layout.ensures) (not-false _ (sym b ∙ c.if-not-admissible.true)) in rw j
 
-pub returns-in-Refused : goal.returns-in-Refused
+pub returns-in_err-test_limits : goal.returns-in_err-test_limits
 unfolding opens refusal_of laid
-returns-in-Refused c = rw (first-early _ _ _ (refused-some _ _ _ c.test_limits.ensures c.in-Refused.is))
+returns-in_err-test_limits c = rw (first-early _ _ _ (refused-some _ _ _ c.test_limits.ensures c.in_err-test_limits.was)) (search rules)
 
-pub returns-else-not-admissible : goal.returns-else-not-admissible
+pub returns : goal.returns
 unfolding laid first
-returns-else-not-admissible c =
+returns c =
     let s = c.args.setup in
-    let p : first (limits s) ≡ none = passed_none _ _ c.test_limits.ensures c.in-Passed.is in
+    let p : first (limits s) ≡ none = passed_none _ _ c.test_limits.ensures c.in_ok-test_limits.was in
     let b = bad s c.admissible.result p c.admissible.ensures in
     rw (
       judged s c.args.block_len false p (c.if-block_len-layout.false ∙ layout-total _ _ c.layout_of-layout.ensures) (not-true _ (sym b ∙ c.if-not-admissible.false)),

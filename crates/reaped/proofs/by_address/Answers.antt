@@ -14,15 +14,15 @@ slot_of_urb-requires c = (setup-admissible c.args.s c.requires.0, c.requires.2)
 pub noticed-requires : goal.noticed-requires
 noticed-requires c =
     let s = c.args.s in
-    let named = sym c.slot_of_urb.ensures ∙ c.in-Slot.is in
+    let named = sym c.slot_of_urb.ensures ∙ c.in-Some.is in
     (c.requires.0, c.requires.1, named-below s.setup (setup-admissible s c.requires.0) c.args.address c.args.block.now _ named, c.requires.2)
 
-pub returns-in-Nothing : goal.returns-in-Nothing
-returns-in-Nothing c =
-    by-found c.args.s c.args.block.now _ _ (sym c.slot_of_urb.ensures ∙ c.in-Nothing.is) _
+pub returns-in-None : goal.returns-in-None
+returns-in-None c =
+    by-found c.args.s c.args.block.now _ _ (sym c.slot_of_urb.ensures ∙ c.in-None.is) _
     (named_none c.args.s c.requires.0 (arrays c.args.s c.well_formed.0) c.args.block.now)
 
-pub returns-in-Slot : goal.returns-in-Slot
+pub returns-in-Some : goal.returns-in-Some
 unfolding by_address
-returns-in-Slot c =
-    by-found c.args.s c.args.block.now _ _ (sym c.slot_of_urb.ensures ∙ c.in-Slot.is) _ c.noticed.ensures
+returns-in-Some c =
+    by-found c.args.s c.args.block.now _ _ (sym c.slot_of_urb.ensures ∙ c.in-Some.is) _ c.noticed.ensures

@@ -1,11 +1,13 @@
 -- `reaped::noticed` meets its contract: whether the slot is out and Discarding says its mark in the ledger.
 -- Assumes nothing.
-use Rattle.std.proofs.Common.{◌≡◌, ◌<◌, Bool, true, false, cond, sym, refl, ap, ◌∙◌, true≢false, arith}
+use Rattle.std.proofs.Common.{◌≡◌, ℕ, ◌<◌, Bool, true, false, cond, sym, refl, ap, ◌∙◌, true≢false, arith}
 use mathlib.Core.Bool.{false≢true}
 use Rattle.ring.specs.declared.SlotState.{SlotState}
 use Rattle.ring.specs.Parts.{state_of, Tabled}
 use Rattle.ring.specs.Slots.{is_discarding, is_out}
 use Rattle.ring.proofs.Wide.{Wide}
+use Rattle.stream.specs.declared.Stream.{Stream}
+use Rattle.stream.specs.Sound.{sound}
 use Rattle.stream.proofs.Arrays.{arrays}
 use Rattle.ledger.specs.Ledger.{home, out, discarded, mark_of}
 use Rattle.ledger.specs.Record.{mark_for, view}
@@ -28,11 +30,22 @@ mark-home SlotState.Filling e = refl
 mark-home SlotState.InFlight e = absurd (true≢false e)
 mark-home SlotState.Discarding e = absurd (true≢false e)
 
+module _ (s : Stream) (ok : sound s ≡ true) (wide : Wide s.ring) (i : ℕ) (below : i < s.setup.slots) where
+  in-ring : Tabled s.ring × (i < 256)
+  in-ring = (own-tabled s ok wide, omega (arith, (facts s ok wide).few))
+
+  mark-when-out : {b : Bool} → is_out (state_of s.ring i) ≡ true → b ≡ is_discarding (state_of s.ring i)
+      → mark_of (view s) i ≡ cond b discarded out
+  mark-when-out e d = view-mark s ok wide i below ∙ mark-out _ e ∙ ap (λ (b : Bool). cond b discarded out) (sym d)
+
+  mark-when-home : is_out (state_of s.ring i) ≡ false → mark_of (view s) i ≡ home
+  mark-when-home e = view-mark s ok wide i below ∙ mark-home _ e
+
 pub is_discarding-was_discarded-requires : goal.is_discarding-was_discarded-requires
-is_discarding-was_discarded-requires c = (let own_known : Tabled c.args.s.ring × (c.args.i < 256) = (own-tabled c.args.s c.requires.0 (let own_wide : Wide c.args.s.ring = arrays c.args.s c.well_formed.0 in own_wide), omega (arith, (facts c.args.s c.requires.0 (let own_wide : Wide c.args.s.ring = arrays c.args.s c.well_formed.0 in own_wide)).few, c.requires.2)) in own_known)
+is_discarding-was_discarded-requires c = in-ring c.args.s c.requires.0 (arrays c.args.s c.well_formed.0) c.args.i c.requires.2
 
 pub is_out-requires : goal.is_out-requires
-is_out-requires c = (let own_known : Tabled c.args.s.ring × (c.args.i < 256) = (own-tabled c.args.s c.requires.0 (let own_wide : Wide c.args.s.ring = arrays c.args.s c.well_formed.0 in own_wide), omega (arith, (facts c.args.s c.requires.0 (let own_wide : Wide c.args.s.ring = arrays c.args.s c.well_formed.0 in own_wide)).few, c.requires.2)) in own_known)
+is_out-requires c = in-ring c.args.s c.requires.0 (arrays c.args.s c.well_formed.0) c.args.i c.requires.2
 
 pub reaped_slot-requires : goal.reaped_slot-requires
 reaped_slot-requires c =
@@ -40,11 +53,16 @@ reaped_slot-requires c =
 
 pub returns-then-is_out : goal.returns-then-is_out
 returns-then-is_out c =
-    by-mark c.args.s c.args.i c.args.block.now _
-    ((let own_mark : let a = c.args in mark_of (view a.s) a.i ≡ mark_for (state_of a.s.ring a.i) = view-mark c.args.s c.requires.0 (let own_wide : Wide c.args.s.ring = arrays c.args.s c.well_formed.0 in own_wide) c.args.i c.requires.2 in own_mark) ∙ mark-out _ (sym c.is_out.ensures ∙ c.if-is_out.true) ∙ ap (λ (b : Bool). cond b discarded out) (sym c.is_discarding-was_discarded.ensures))
+    let a = c.args in
+    by-mark a.s a.i a.block.now _
+    (mark-when-out a.s c.requires.0 (arrays a.s c.well_formed.0) a.i c.requires.2
+    (sym c.is_out.ensures ∙ c.if-is_out.true) c.is_discarding-was_discarded.ensures)
     _ c.reaped_slot.ensures
 
 pub returns-else-is_out : goal.returns-else-is_out
 returns-else-is_out c =
-    by-mark c.args.s c.args.i c.args.block.now _ ((let own_mark : let a = c.args in mark_of (view a.s) a.i ≡ mark_for (state_of a.s.ring a.i) = view-mark c.args.s c.requires.0 (let own_wide : Wide c.args.s.ring = arrays c.args.s c.well_formed.0 in own_wide) c.args.i c.requires.2 in own_mark) ∙ mark-home _ (sym c.is_out.ensures ∙ c.if-is_out.false)) _
-    (notice-stray c.args.s c.requires.0 (let own_wide : Wide c.args.s.ring = arrays c.args.s c.well_formed.0 in own_wide) c.args.i c.args.block.now _ c.refused.ensures)
+    let a = c.args in
+    let wide = arrays a.s c.well_formed.0 in
+    by-mark a.s a.i a.block.now _
+    (mark-when-home a.s c.requires.0 wide a.i c.requires.2 (sym c.is_out.ensures ∙ c.if-is_out.false))
+    _ (notice-stray a.s c.requires.0 wide a.i a.block.now _ c.refused.ensures)

@@ -4,14 +4,14 @@ use Rattle.ledger.specs.Reaped.{reaped_idle}
 use Rattle.reaped.proofs.Replies.{by-reply, errno-lent}
 use Rattle.reaped.proofs.reaped_idle.Goals as goal
 
-pub returns-in-Errno : goal.returns-in-Errno
+pub returns-in-Err : goal.returns-in-Err
 unfolding reaped_idle
-returns-in-Errno c =
+returns-in-Err c =
     let a = c.args in
-    by-reply a.s a.block.now _ _ c.in-Errno.is _ (errno-lent a.s _ _ a.block.now c.by_errno.ensures)
+    by-reply a.s a.block.now _ _ c.in-Err.is _ (errno-lent a.s _ _ a.block.now c.by_errno.ensures)
 
-pub returns-in-Address : goal.returns-in-Address
+pub returns-in-Ok : goal.returns-in-Ok
 unfolding reaped_idle
-returns-in-Address c =
+returns-in-Ok c =
     let a = c.args in
-    by-reply a.s a.block.now _ _ c.in-Address.is _ c.by_address.ensures
+    by-reply a.s a.block.now _ _ c.in-Ok.is _ c.by_address.ensures

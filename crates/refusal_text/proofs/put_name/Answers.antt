@@ -1,13 +1,15 @@
--- The bytes are the table's names, one line a number behind an empty line for 0, and so the line that is put is the name.
-use Rattle.refusal_text.specs.CString.{codes}
-use Rattle.refusal_text.specs.Refusals.{refusals}
-use Rattle.refusal_text.proofs.Joined.{joined}
-use Rattle.refusal_text.proofs.Rows.{lines_of, name-line}
-use Rattle.refusal_text.proofs.Put.{put_same}
+-- The array's names are the table's, and so the one that is put is the number's.
+use Rattle.std.proofs.Common.{◌≡◌, ℕ, List, length, ap, ◌∙◌}
+use Rattle.refusal_text.specs.CString.{codes, c_string}
+use Rattle.refusal_text.specs.Refusals.{refusals, name_of}
+use Rattle.refusal_text.proofs.Rows.{texts_of, name-at}
 use Rattle.refusal_text.proofs.put_name.Goals as goal
 
 pub returns : goal.returns
-unfolding codes refusals joined lines_of
+unfolding codes refusals texts_of
 returns c =
-    let same = put_same c.args.out.now (name-line c.args.number) (c.put.ensures.value, c.put.ensures.out_after) in
-    record { value = same.0; out_after = same.1 }
+    let e : c.row.result.0.now ≡ codes (name_of c.args.number) = c.row.ensures.name ∙ name-at c.args.number in
+    record {
+      value = c.put.ensures.value ∙ ap length e;
+      out_after = c.put.ensures.out_after ∙ ap (λ (t : List ℕ). c_string t c.args.out.now) e;
+    }

@@ -1,6 +1,6 @@
 -- `submitted::accept` meets its contract: the out count has room for the slot in hand, and the record made anew is the one that shows the
 -- ledger after the acceptance. Assumes nothing.
-use Rattle.std.proofs.Common.{ap, ◌∙◌}
+use Rattle.std.proofs.Common.{◌∙◌}
 use Rattle.stream.proofs.Arrays.{arrays}
 use Rattle.stream.specs.Parts.{with_state}
 use Rattle.stream.proofs.Soundness.{setup-admissible}
@@ -23,7 +23,6 @@ pub returns : goal.returns
 unfolding with_state one_submitted plus
 returns c =
     let s = c.args.s in
-    let total = c.wrapping_add_u64-2.ensures.value ∙ ap (plus s.stats.bytes_submitted) c.buffer_bytes-bytes.ensures in
     c.new.ensures ∙
-    rw (c.mark_in_flight.ensures, total, c.wrapping_add_u64.ensures.value)
+    rw (c.mark_in_flight.ensures, c.buffer_bytes-bytes.ensures)
     (accepted-stored s c.requires.0 (arrays c.args.s c.well_formed.0) c.args.i c.requires.1 c.args.block.now)

@@ -5,10 +5,10 @@ use Rattle.layout.proofs.Admission.{admits}
 use Rattle.submitted.proofs.Failing.{payload-fits}
 use Rattle.submitted.proofs.payload_bytes.Goals as goal
 
-pub overflow_mul-bytes : goal.overflow_mul-bytes
-overflow_mul-bytes c =
+pub overflow_mul-result : goal.overflow_mul-result
+overflow_mul-result c =
     omega (arith, (payload-fits c.args.setup (admits _ c.requires).limits).0)
 
-pub overflow_mul-bytes-2 : goal.overflow_mul-bytes-2
-overflow_mul-bytes-2 c =
+pub overflow_mul-result-2 : goal.overflow_mul-result-2
+overflow_mul-result-2 c =
     omega (arith, (payload-fits c.args.setup (admits _ c.requires).limits).1)

@@ -6,14 +6,14 @@ use Rattle.submitted.proofs.Failing.{failed-lent}
 use Rattle.submitted.proofs.Replies.{sent-by}
 use Rattle.submitted.proofs.sent.Goals as goal
 
-pub returns-in-Accepted : goal.returns-in-Accepted
+pub returns-in-Ok : goal.returns-in-Ok
 unfolding sent
-returns-in-Accepted c =
-    sent-by c.args.s _ _ c.in-Accepted.is c.args.i c.args.block.now _ _
+returns-in-Ok c =
+    sent-by c.args.s _ _ c.in-Ok.is c.args.i c.args.block.now _ _
     (record { answer = refl; stream = c.accept.ensures; block = refl })
 
-pub returns-in-Errno : goal.returns-in-Errno
+pub returns-in-Err : goal.returns-in-Err
 unfolding sent
-returns-in-Errno c =
-    sent-by c.args.s _ _ c.in-Errno.is c.args.i c.args.block.now _ _
+returns-in-Err c =
+    sent-by c.args.s _ _ c.in-Err.is c.args.i c.args.block.now _ _
     (failed-lent c.args.s c.args.i _ _ c.args.block.now c.fail.ensures)

@@ -22,19 +22,19 @@ chain-requires c =
       c.requires.2 ∙ total-again s c.requires.0 w _ v _ c.accept.ensures,
     )
 
-pub returns-in-Accepted : goal.returns-in-Accepted
+pub returns-in-Ok : goal.returns-in-Ok
 unfolding silent
-returns-in-Accepted c =
+returns-in-Ok c =
     let s = c.args.s in
     let block = c.args.block.now in
     let w = arrays s c.well_formed.0 in
-    silent-by s _ _ c.in-Accepted.is c.args.i block _ _ c.args.left
+    silent-by s _ _ c.in-Ok.is c.args.i block _ _ c.args.left
     (gives-again s c.requires.0 w _ (accepted-valid s c.requires.0 w c.args.i c.requires.1 block) _ c.accept.ensures
     (accepted-queue s c.requires.0 w c.args.i c.requires.1 block)
     (λ (st : Setup) (l : Ledger). chained st c.args.left l block) _ _ c.chain.ensures)
 
-pub returns-in-Errno : goal.returns-in-Errno
+pub returns-in-Err : goal.returns-in-Err
 unfolding silent
-returns-in-Errno c =
-    silent-by c.args.s _ _ c.in-Errno.is c.args.i c.args.block.now _ _ c.args.left
+returns-in-Err c =
+    silent-by c.args.s _ _ c.in-Err.is c.args.i c.args.block.now _ _ c.args.left
     (failed-lent c.args.s c.args.i _ _ c.args.block.now c.fail.ensures)

@@ -6,7 +6,9 @@ use mathlib.Core.List.{List}
 use Prim.Native.Nat.{ℕ, ◌+◌, ◌*◌, ◌≤◌, ◌<◌}
 use native.Mathlib.Decide.{dec_lt}
 use native.Mathlib.Omega.{arith}
+use borrow.Author.Rules.{rules}
 use lib.ListN.{length}
+use Rattle.mask.specs.declared.Mask.{Mask}
 use Rattle.mask.specs.Masks.{table_word, mask_of}
 use Rattle.mask.proofs.Masks.{mask-made}
 use Rattle.ring.specs.declared.Ring.{Ring}
@@ -51,22 +53,21 @@ module _
   few : a.out + b.out + c.out + d.out ≤ 256
   few = omega (arith, counted, count-at-most (λ i. is_out (state i)) 256)
 
+  -- a mask of such a word of each
+  abbrev Has : (StateWords → ℕ) → Mask → Type 0
+  Has word m = (m.a ≡ word a) × (m.b ≡ word b) × (m.c ≡ word c) × (m.d ≡ word d)
+
   -- the masks
-  masks : (n : ℕ) → ((i : ℕ) → n ≤ i → state i ≡ Free) → (m : SlotStates)
-      → m ≡ record {
-        filling = record { a = a.filling; b = b.filling; c = c.filling; d = d.filling };
-        in_flight = record { a = a.in_flight; b = b.in_flight; c = c.in_flight; d = d.in_flight };
-        discarding = record { a = a.discarding; b = b.discarding; c = c.discarding; d = d.discarding };
-      }
-      → m ≡ masks_of (first_of n state)
+  masks : (n : ℕ) → ((i : ℕ) → n ≤ i → state i ≡ Free) → (f g h : Mask)
+      → Has (λ w. w.filling) f → Has (λ w. w.in_flight) g → Has (λ w. w.discarding) h
+      → ◌≡◌ {A = SlotStates} (record { filling = f; in_flight = g; discarding = h }) (masks_of (first_of n state))
   unfolding masks_of mask_of
-  masks n past m e =
-      e
-      ∙ (λ k.
+  masks n past f g h ef eg eh =
+      (λ k.
       record {
-        filling = mask-made ra.0 rb.0 rc.0 rd.0 k;
-        in_flight = mask-made ra.1 rb.1 rc.1 rd.1 k;
-        discarding = mask-made ra.2 rb.2 rc.2 rd.2 k;
+        filling = mask-made (ef.0 ∙ ra.0) (ef.1 ∙ rb.0) (ef.2 ∙ rc.0) (ef.3 ∙ rd.0) k;
+        in_flight = mask-made (eg.0 ∙ ra.1) (eg.1 ∙ rb.1) (eg.2 ∙ rc.1) (eg.3 ∙ rd.1) k;
+        discarding = mask-made (eh.0 ∙ ra.2) (eh.1 ∙ rb.2) (eh.2 ∙ rc.2) (eh.3 ∙ rd.2) k;
       })
       ∙ masks-ext state (first_of n state) (λ i h. go i (dec_lt i n))
     where
@@ -103,6 +104,6 @@ returns c =
     let g = c.read_slots-c.ensures in
     let d = c.read_slots-d.ensures in
     whole codes c.args.free c.args.free_len _ _
-    (masks (state_read codes) _ _ _ _ a b g d (length codes) (read_past codes) _ c.new-states.ensures)
+    (masks (state_read codes) _ _ _ _ a b g d (length codes) (read_past codes) _ _ _ (search rules) (search rules) (search rules))
     c.requires
     (counted (state_read codes) _ _ _ _ a b g d)

@@ -3,12 +3,11 @@
 use mathlib.Core.Path.{◌≡◌, refl, sym, ap, ◌∙◌}
 use mathlib.Core.Bool.{Bool, true, false, cond}
 use mathlib.Core.List.{List, [], ◌∷◌, ◌++◌, append_assoc, append-nil}
-use Prim.Native.Nat.{ℕ, zero, suc, ◌+◌, ◌-◌, ◌*◌, ◌/◌, ◌%◌, ◌≤◌, ◌<◌, min}
+use Prim.Native.Nat.{ℕ, zero, suc, ◌+◌, ◌-◌, ◌*◌, ◌≤◌, ◌<◌, min}
 use native.Mathlib.Nat.{add-zero, add-suc}
 use native.Mathlib.Omega.{arith}
-use borrow.Author.Rules.{rules}
 use borrow.Rule.Slice.PartMut.{put_mid}
-use lib.ListN.{length, take, drop, length-append, length-take, length-drop}
+use lib.ListN.{length, take, drop, length-drop}
 use lib.Seq.{length-take-le, take_at, drop_at, drop-drop}
 use Rattle.mask.specs.Bits.{bit}
 use Rattle.mask.specs.Masks.{word_at, member}
@@ -67,55 +66,39 @@ part-home g h l cur at end is low room same part e =
     ∙ ap (λ (t : List ℕ). t ++ drop end l) (sym (table-append g at count) ∙ ap (table g) ends))
 
 -- so with the words that were picked
-round : (m : SlotStates) (f i d at end : ℕ) (l cur part : List ℕ)
-    → f ≡ word_at m.filling (at / 64) → i ≡ word_at m.in_flight (at / 64) → d ≡ word_at m.discarding (at / 64)
-    → at % 64 ≡ 0 → at ≤ length l → end ≡ min (at + 64) (length l) → cur ≡ table (number m) at ++ drop at l
+round : (m : SlotStates) (f i d q at end : ℕ) (l cur part : List ℕ)
+    → f ≡ word_at m.filling q → i ≡ word_at m.in_flight q → d ≡ word_at m.discarding q
+    → at ≡ min (length l) (q * 64) → end ≡ min (length l) (at + 64) → cur ≡ table (number m) at ++ drop at l
     → part ≡ table (λ j. number_in (bit f j) (bit i j) (bit d j)) (length (take (end - at) (drop at cur)))
     → put_mid at (end - at) cur part ≡ table (number m) end ++ drop end l
-round m f i d at end l cur part ef ei ed whole low is-end is e =
-    let start : at / 64 * 64 ≡ at = omega arith in
-    part-home (number m) (number_at m (at / 64)) l cur at end is (omega arith) (omega arith)
-    (λ j h. number-at m (at / 64) j (omega arith) ∙ ap (λ (k : ℕ). number m (k + j)) start)
+round m f i d q at end l cur part ef ei ed is-at is-end is e =
+    part-home (number m) (number_at m q) l cur at end is (omega arith) (omega arith)
+    (λ j h. number-at m q j (omega arith) ∙ ap (λ (k : ℕ). number m (k + j)) (omega arith))
     part (rw (ef, ei, ed) at e)
 
-long : (g : ℕ → ℕ) (l cur : List ℕ) (end : ℕ) → end ≤ length l → cur ≡ table g end ++ drop end l → length cur ≡ length l
-long g l cur end h e = ap length e ∙ rw (length-append, table-long g end, length-drop) (omega arith)
-
-pub loop-at-preserved : goal.loop-at-preserved
-loop-at-preserved c =
-    let args = c.args in
-    let whole = c.loop-at.invariant.1 c.loop-at-test.true in
-    let turned =
-    round args.ring.states _ _ _ c.loop-at.at c.end_of-end.result args.codes.now c.loop-at.codes _
-    c.word-filling.ensures c.word-flying.ensures c.word-discarding.ensures
-    whole c.loop-at.invariant.0 c.end_of-end.ensures c.loop-at.invariant.3 c.put_slots.ensures in
-    (omega arith, λ h. omega arith, long (number args.ring.states) args.codes.now _ c.end_of-end.result (omega arith) turned, turned)
-
-pub loop-at-init : goal.loop-at-init
+-- before the first
+none : (g : ℕ → ℕ) (l : List ℕ) (k : ℕ) → k ≡ 0 → l ≡ table g k ++ drop k l
 unfolding table
-loop-at-init c = (search rules, λ h. omega arith, refl, refl)
+none g l k e = rw e
 
-pub end_of-end-requires : goal.end_of-end-requires
-end_of-end-requires c = omega arith
+pub loop-q-init : goal.loop-q-init
+loop-q-init c = none _ _ _ (omega arith)
 
-pub slice_bounds-put_slots-count : goal.slice_bounds-put_slots-count
-slice_bounds-put_slots-count c = omega arith
-
-pub slice_bounds-put_slots-start : goal.slice_bounds-put_slots-start
-slice_bounds-put_slots-start c = omega arith
-
-pub slice_bounds-put_slots-end : goal.slice_bounds-put_slots-end
-slice_bounds-put_slots-end c = omega arith
-
-pub put_slots-requires : goal.put_slots-requires
-put_slots-requires c = simp (length-take, length-drop) (omega (arith, c.end_of-end.ensures))
-
-pub loop-at-smaller : goal.loop-at-smaller
-loop-at-smaller c = omega (arith, c.end_of-end.ensures)
+pub loop-q-preserved : goal.loop-q-preserved
+loop-q-preserved c =
+    let l = c.args.codes.now in
+    let q = c.loop-q.q in
+    let from : q * 64 ≡ min (length l) (q * 64) = omega (arith, c.div_ceil-q-end.ensures) in
+    let turned =
+    round c.args.ring.states _ _ _ q (q * 64) c.min-to.result l c.loop-q.codes _
+    c.word.ensures c.word-in-loop-q.ensures c.word-in-loop-q-2.ensures
+    from c.min-to.ensures (rw (← from) at c.loop-q.invariant) c.put_slots.ensures in
+    let next : min (length l) ((q + 1) * 64) ≡ c.min-to.result = omega (arith, c.min-to.ensures) in
+    rw next turned
 
 pub returns : goal.returns
 unfolding number state_of
 returns c =
-    let l = c.loop-at in
-    let a = c.args in
-    l.invariant.3 ∙ table-whole (number a.ring.states) a.codes.now l.at (omega arith)
+    let l = c.args.codes.now in
+    let q = c.loop-q.q in
+    c.loop-q.invariant ∙ table-whole (number c.args.ring.states) l (min (length l) (q * 64)) (omega (arith, c.div_ceil-q-end.ensures))

@@ -18,9 +18,6 @@ odd-at codes i = is_odd (state_read codes i)
 
 abbrev pub invariant-loop-at : goal.invariant-loop-at
 invariant-loop-at l =
-    (l.at ≤ l.initial.at) × (l.at < l.initial.at → l.from ≤ l.at)
+    (l.at < l.initial.at → l.from ≤ l.at)
     × (l.low ≡ digits_from (odd-at l.codes) l.at l.initial.at) × (l.high ≡ digits_from (out_at l.codes) l.at l.initial.at)
     × (how_many l.at (out_at l.codes) + l.out ≡ how_many l.initial.at (out_at l.codes))
-
-abbrev pub decreases-loop-at : goal.decreases-loop-at
-decreases-loop-at l = l.at

@@ -4,8 +4,6 @@ use mathlib.Core.Path.{◌≡◌, refl, sym, ap, ◌∙◌}
 use Prim.Native.Nat.{ℕ, ◌*◌}
 use native.Mathlib.Nat.{zero-add}
 use native.Mathlib.Omega.{arith}
-use borrow.Author.Rules.{rules}
-use lib.ListN.{length-set}
 use Rattle.sys.specs.Bytes.{field}
 use Rattle.ring.specs.Counts.{table}
 use Rattle.ring.proofs.Numbers.{table-put, table-whole}
@@ -19,23 +17,14 @@ loop-i-preserved c =
     let at = c.loop-i in
     let bytes = c.args.bytes.now in
     let read : c.get.result ≡ number bytes at.i = c.get.ensures.0 ∙ ap (λ (k : ℕ). field k 8 bytes) (sym (zero-add (8 * at.i))) in
-    (omega arith, simp length-set at.invariant.1, rw at.invariant.2 (table-put (number bytes) c.args.values.now at.i c.get.result (omega arith) read))
+    rw at.invariant (table-put (number bytes) c.args.values.now at.i c.get.result (omega arith) read)
 
 pub loop-i-init : goal.loop-i-init
 unfolding table
-loop-i-init c = (search rules, refl, refl)
-
-pub overflow_mul-i : goal.overflow_mul-i
-overflow_mul-i c = omega arith
-
-pub bounds-values-i : goal.bounds-values-i
-bounds-values-i c = omega arith
-
-pub loop-i-smaller : goal.loop-i-smaller
-loop-i-smaller c = omega arith
+loop-i-init c = refl
 
 pub returns : goal.returns
 unfolding number numbers_at
 returns c =
     let at = c.loop-i in
-    at.invariant.2 ∙ table-whole (number c.args.bytes.now) c.args.values.now at.i (omega arith)
+    at.invariant ∙ table-whole (number c.args.bytes.now) c.args.values.now at.i (omega arith)

@@ -2,8 +2,8 @@
 -- Assumes nothing.
 use mathlib.Core.Path.{◌≡◌}
 use mathlib.Core.List.{List, ◌++◌}
-use Prim.Native.Nat.{ℕ, ◌+◌, ◌-◌, ◌*◌, ◌≤◌}
-use lib.ListN.{length, drop}
+use Prim.Native.Nat.{ℕ, ◌+◌, ◌*◌}
+use lib.ListN.{drop}
 use Rattle.sys.specs.Bytes.{field}
 use Rattle.ring.specs.Counts.{table}
 use Rattle.encoding.proofs.words.get_words.Given as goal
@@ -12,8 +12,4 @@ unfoldable pub number : List ℕ → ℕ → ℕ
 number bytes i = field (0 + 8 * i) 8 bytes
 
 abbrev pub invariant-loop-i : goal.invariant-loop-i
-invariant-loop-i l =
-    (l.i ≤ length l.initial.values) × (length l.values ≡ length l.initial.values) × (l.values ≡ table (number l.bytes) l.i ++ drop l.i l.initial.values)
-
-abbrev pub decreases-loop-i : goal.decreases-loop-i
-decreases-loop-i l = length l.initial.values - l.i
+invariant-loop-i l = l.values ≡ table (number l.bytes) l.i ++ drop l.i l.initial.values

@@ -22,47 +22,43 @@ next-room w at i values bytes h room = room_at w at i (length values) bytes h (o
 all : (w at : ℕ) (values bytes : List ℕ) (i : ℕ) → i ≡ length values → begins (words w (table (entry values) i)) (drop at bytes) ≡ begins (words w values) (drop at bytes)
 all w at values bytes i e = ap (λ (vs : List ℕ). begins (words w vs) (drop at bytes)) (ap (table (entry values)) e ∙ table-of values)
 
-pub loop-i-init : goal.loop-i-init
-loop-i-init c = (search rules, rw mul-zero (omega arith), begins-none _ _ _)
+pub loop-value-init : goal.loop-value-init
+loop-value-init c = (rw mul-zero (omega arith), begins-none _ _ _)
 
 pub get-requires : goal.get-requires
 get-requires c =
-    (search rules, omega (arith, next-room c.args.width c.args.at c.loop-i.i c.args.values.now c.args.bytes.now c.loop-i-test.true c.requires.width_bound.1))
+    (search rules, omega (arith, next-room c.args.width c.args.at c.loop-value.value-index c.args.values.now c.args.bytes.now c.loop-value-test.true c.requires.width_bound.1))
 
-pub returns-then-get-values : goal.returns-then-get-values
-returns-then-get-values c =
-    let loop = c.loop-i in
+pub returns-then-get-value : goal.returns-then-get-value
+returns-then-get-value c =
+    let loop = c.loop-value in
     let args = c.args in
-    let room = next-room args.width args.at loop.i args.values.now args.bytes.now c.loop-i-test.true c.requires.width_bound.1 in
-    let fits : entry args.values.now loop.i < 256 ^ args.width = c.requires.by_index loop.i (search rules) in
+    let room = next-room args.width args.at loop.value-index args.values.now args.bytes.now c.loop-value-test.true c.requires.width_bound.1 in
+    let fits : entry args.values.now loop.value-index < 256 ^ args.width = c.requires.by_index loop.value-index (search rules) in
     let below : Bytes args.bytes.now = λ i. search rules in
-    let read = c.get.ensures.0 ∙ ap (λ (k : ℕ). field k args.width args.bytes.now) loop.invariant.1 in
+    let read = c.get.ensures.0 ∙ ap (λ (k : ℕ). field k args.width args.bytes.now) loop.invariant.0 in
     sym
     (sym (all args.width args.at args.values.now args.bytes.now (length args.values.now) refl)
-    ∙ begins-not args.width (entry args.values.now) args.at loop.i args.bytes.now fits room below
-    (length args.values.now) c.loop-i-test.true (λ same. c.if-get-values.true (read ∙ same)))
+    ∙ begins-not args.width (entry args.values.now) args.at loop.value-index args.bytes.now fits room below
+    (length args.values.now) c.loop-value-test.true (λ same. c.if-get-value.true (read ∙ same)))
 
 pub overflow_add-next : goal.overflow_add-next
-overflow_add-next c = omega (arith, next-room c.args.width c.args.at c.loop-i.i c.args.values.now c.args.bytes.now c.loop-i-test.true c.requires.width_bound.1)
+overflow_add-next c = omega (arith, next-room c.args.width c.args.at c.loop-value.value-index c.args.values.now c.args.bytes.now c.loop-value-test.true c.requires.width_bound.1)
 
-pub loop-i-smaller : goal.loop-i-smaller
-loop-i-smaller c = omega arith
-
-pub loop-i-preserved : goal.loop-i-preserved
-loop-i-preserved c =
-    let loop = c.loop-i in
+pub loop-value-preserved : goal.loop-value-preserved
+loop-value-preserved c =
+    let loop = c.loop-value in
     let args = c.args in
-    let room = next-room args.width args.at loop.i args.values.now args.bytes.now c.loop-i-test.true c.requires.width_bound.1 in
-    let fits : entry args.values.now loop.i < 256 ^ args.width = c.requires.by_index loop.i (search rules) in
+    let room = next-room args.width args.at loop.value-index args.values.now args.bytes.now c.loop-value-test.true c.requires.width_bound.1 in
+    let fits : entry args.values.now loop.value-index < 256 ^ args.width = c.requires.by_index loop.value-index (search rules) in
     let below : Bytes args.bytes.now = λ i. search rules in
-    let read = c.get.ensures.0 ∙ ap (λ (k : ℕ). field k args.width args.bytes.now) loop.invariant.1 in (
-      omega arith,
+    let read = c.get.ensures.0 ∙ ap (λ (k : ℕ). field k args.width args.bytes.now) loop.invariant.0 in (
       rw (add-one, mul-suc) (omega arith),
-      begins-more args.width (entry args.values.now) args.at loop.i args.bytes.now fits room below
-          loop.invariant.2 (sym read ∙ c.if-get-values.false),
+      begins-more args.width (entry args.values.now) args.at loop.value-index args.bytes.now fits room below
+          loop.invariant.1 (sym read ∙ c.if-get-value.false),
     )
 
 pub returns : goal.returns
 returns c =
     let args = c.args in
-    sym c.loop-i.invariant.2 ∙ all args.width args.at args.values.now args.bytes.now c.loop-i.i (omega arith)
+    sym c.loop-value.invariant.1 ∙ all args.width args.at args.values.now args.bytes.now c.loop-value.value-index (omega arith)

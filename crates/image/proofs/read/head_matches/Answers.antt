@@ -1,5 +1,5 @@
 -- `image::head_matches` meets its contract: the header is compared, and then the setup, unless the header differs. Assumes nothing.
-use mathlib.Core.Path.{◌≡◌, refl, sym, ap, ◌∙◌}
+use mathlib.Core.Path.{◌≡◌, sym, ap, ◌∙◌}
 use mathlib.Core.Bool.{Bool, true, false, ◌&&◌, false≢true}
 use mathlib.Core.List.{List}
 use Prim.Native.Nat.{ℕ, ◌^◌, ◌≤◌, ◌<◌}
@@ -15,9 +15,9 @@ small : (n used : ℕ) (numbers : List ℕ) → numbers ≡ header_for n used �
 small n used numbers e few short i h = rw e (header-fits n used few short i)
 
 -- the header differs
-other : (a b h : Bool) → h ≡ a → h ≡ false → false ≡ (a && b)
+other : (a b h : Bool) → h ≡ a → h ≡ false → h ≡ (a && b)
 other true b h e n = absurd (false≢true (sym n ∙ e))
-other false b h e n = refl
+other false b h e n = e
 
 -- it doesn't
 rest : (a b h r : Bool) → h ≡ a → h ≡ true → r ≡ b → r ≡ (a && b)
@@ -30,28 +30,28 @@ same-words w at bytes numbers expected r e p = e ∙ ap (λ (l : List ℕ). begi
 
 pub has_words-requires : goal.has_words-requires
 has_words-requires c =
-    let numbers = c.header_numbers-header.ensures in
+    let numbers = c.header_numbers.ensures in
     record {
       width_bound = (omega arith, header-room _ _ _ _ numbers c.requires.2);
       by_index = small _ _ _ numbers c.requires.0 c.requires.1;
     }
 
-pub returns-then-not-has_words : goal.returns-then-not-has_words
-returns-then-not-has_words c =
+pub returns-else-has_words : goal.returns-else-has_words
+returns-else-has_words c =
     let header : c.has_words.result ≡ begins (words 4 (header_for c.args.setup.slots c.args.used)) c.args.image.now =
-    same-words 4 0 _ _ _ _ c.has_words.ensures c.header_numbers-header.ensures in
-    other _ _ _ header c.if-not-has_words.true
+    same-words 4 0 _ _ _ _ c.has_words.ensures c.header_numbers.ensures in
+    other _ _ _ header c.if-has_words.false
 
-pub has_words-requires-2 : goal.has_words-requires-2
-has_words-requires-2 c =
+pub has_words-requires-then-has_words : goal.has_words-requires-then-has_words
+has_words-requires-then-has_words c =
     record {
-      width_bound = (omega arith, setup-room _ _ _ _ _ _ c.setup_numbers-numbers.ensures c.requires.2);
+      width_bound = (omega arith, setup-room _ _ _ _ _ _ c.setup_numbers.ensures c.requires.2);
       by_index = λ i h. h;
     }
 
-pub returns : goal.returns
-returns c =
+pub returns-then-has_words : goal.returns-then-has_words
+returns-then-has_words c =
     let header : c.has_words.result ≡ begins (words 4 (header_for c.args.setup.slots c.args.used)) c.args.image.now =
-    same-words 4 0 _ _ _ _ c.has_words.ensures c.header_numbers-header.ensures in
-    rest _ _ _ _ header c.if-not-has_words.false
-    (same-words 8 24 c.args.image.now _ _ _ c.has_words-2.ensures c.setup_numbers-numbers.ensures)
+    same-words 4 0 _ _ _ _ c.has_words.ensures c.header_numbers.ensures in
+    rest _ _ _ _ header c.if-has_words.true
+    (same-words 8 24 c.args.image.now _ _ _ c.has_words-then-has_words.ensures c.setup_numbers.ensures)

@@ -21,6 +21,7 @@ use Rattle.image.specs.Image.{setup_for}
 use Rattle.image.specs.Reading.{setup_at, states_at, queue_at, counters_at, header_for, stats_from, setup_in, hand_in, flags_in, queue_in, ring_in, record_in, matches, Roomy}
 use Rattle.encoding.proofs.Laid.{Bytes}
 use Rattle.image.proofs.Matches.{by_parts}
+use Rattle.image.proofs.read.read_parts.Goals.{then-not-head_matches-via-then-not-head_matches, then-not-head_matches-via-else-not-head_matches+then-not-states_match, then-not-head_matches-via-else-not-head_matches+else-not-states_match+then-not-queue_matches}
 use Rattle.image.proofs.read.read_parts.Goals as goal
 
 -- whether the states match, and the queue
@@ -66,25 +67,18 @@ head_matches-requires c =
 
 pub returns-then-not-head_matches : goal.returns-then-not-head_matches
 returns-then-not-head_matches c =
+    let head =
+    decided c.args.image.now c.args.n c.requires (λ k. search rules) _ _ _ _ _ c.read_setup-setup.ensures c.read_hand-hand.ensures
+    c.read_flags-flags.ensures c.read_used-used.ensures c.head_matches.ensures in
     off _ _ c.no_stream.ensures
-    (head-off
-    (decided c.args.image.now c.args.n c.requires (λ k. search rules) _ _ _ _ _ c.read_setup-setup.ensures c.read_hand-hand.ensures c.read_flags-flags.ensures c.read_used-used.ensures c.head_matches.ensures)
-    c.if-not-head_matches.true)
-
-pub returns-then-not-states_match : goal.returns-then-not-states_match
-returns-then-not-states_match c =
-    off _ _ c.no_stream-then-not-states_match.ensures
-    (states-off
-    (decided c.args.image.now c.args.n c.requires (λ k. search rules) _ _ _ _ _ c.read_setup-setup.ensures c.read_hand-hand.ensures c.read_flags-flags.ensures c.read_used-used.ensures c.head_matches.ensures)
-    c.if-not-head_matches.false _ c.states_match.ensures c.if-not-states_match.true)
-
-pub returns-then-not-queue_matches : goal.returns-then-not-queue_matches
-returns-then-not-queue_matches c =
-    off _ _ c.no_stream-then-not-queue_matches.ensures
-    (queue-left
-    (decided c.args.image.now c.args.n c.requires (λ k. search rules) _ _ _ _ _ c.read_setup-setup.ensures c.read_hand-hand.ensures c.read_flags-flags.ensures c.read_used-used.ensures c.head_matches.ensures)
-    c.if-not-head_matches.false _ c.states_match.ensures c.if-not-states_match.false _ c.queue_matches.ensures
-    ∙ c.if-not-queue_matches.true)
+    (elim c.then-not-head_matches.branch [
+      | then-not-head_matches-via-then-not-head_matches w ↦ head-off head w.if-not-head_matches.true
+      | then-not-head_matches-via-else-not-head_matches+then-not-states_match w ↦
+          states-off head w.if-not-head_matches.false _ w.states_match.ensures w.if-not-states_match.true
+      | then-not-head_matches-via-else-not-head_matches+else-not-states_match+then-not-queue_matches w ↦
+          queue-left head w.if-not-head_matches.false _ w.states_match.ensures w.if-not-states_match.false _ w.queue_matches.ensures
+          ∙ w.if-not-queue_matches.true
+    ])
 
 pub read_stats-stats-requires : goal.read_stats-stats-requires
 read_stats-stats-requires c =

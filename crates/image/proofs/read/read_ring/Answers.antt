@@ -23,5 +23,5 @@ made bytes free n end used r e room f u is =
 
 pub returns : goal.returns
 returns c =
-    made c.args.image.now _ c.args.n _ _ _ c.queue_at-end.ensures c.requires.1
-    c.read_queue-free.ensures c.requires.2 c.from_codes.ensures
+    made c.args.image.now _ c.args.n _ _ _ c.queue_at.ensures c.requires.1
+    c.read_queue.ensures c.requires.2 c.from_codes.ensures

@@ -1,7 +1,5 @@
--- `image::write::put_queue` meets its contract. The loop's invariant: the first i places are stored, one store of them all; a place within the queue holds its
--- slot, one behind it 0. Assumes nothing.
+-- The loop of `image::write::put_queue`: the first i places are stored, one store of them all.
 use mathlib.Core.Path.{◌≡◌}
-use Prim.Native.Nat.{◌-◌, ◌≤◌}
 use lib.ListN.{length, take}
 use Rattle.sys.specs.Bytes.{store}
 use Rattle.ring.specs.Counts.{table}
@@ -11,7 +9,4 @@ use Rattle.image.proofs.write.put_queue.Given as goal
 
 abbrev pub invariant-loop-i : goal.invariant-loop-i
 invariant-loop-i l =
-    (l.i ≤ l.n) × (length l.image ≡ length l.initial.image) × (l.image ≡ store l.at (words 4 (table (entry (take l.used l.free)) l.i)) l.initial.image)
-
-abbrev pub decreases-loop-i : goal.decreases-loop-i
-decreases-loop-i l = l.n - l.i
+    (length l.image ≡ length l.initial.image) × (l.image ≡ store l.at (words 4 (table (entry (take l.used l.free)) l.i)) l.initial.image)

@@ -13,13 +13,13 @@ both : (at bt : ℕ) (us vs us' vs' first l m : List ℕ) → m ≡ store bt vs 
 both at bt us vs us' vs' first l m e d p q = e ∙ rw (d, p, q)
 
 pub put_words-requires : goal.put_words-requires
-put_words-requires c = header-room _ _ _ _ c.header_numbers-header.ensures c.requires.1
+put_words-requires c = header-room _ _ _ _ c.header_numbers.ensures c.requires.1
 
 pub put_words-requires-2 : goal.put_words-requires-2
 put_words-requires-2 c =
-    setup-room _ _ _ _ _ _ c.setup_numbers-numbers.ensures (search rules)
+    setup-room _ _ _ _ _ _ c.setup_numbers.ensures (search rules)
 
 pub returns : goal.returns
 returns c =
     both 0 24 _ _ _ _ _ _ _ c.put_words-2.ensures c.put_words.ensures
-    (ap (words 8) c.setup_numbers-numbers.ensures) (ap (words 4) c.header_numbers-header.ensures)
+    (ap (words 8) c.setup_numbers.ensures) (ap (words 4) c.header_numbers.ensures)

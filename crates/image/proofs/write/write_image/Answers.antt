@@ -43,7 +43,7 @@ counters_at-requires c = few c.args.s c.requires.0
 
 pub put_words-requires : goal.put_words-requires
 put_words-requires c =
-    room c.args.s.setup.slots _ _ c.args.s.stats _ c.counters_at.ensures c.counter_numbers-counters.ensures
+    room c.args.s.setup.slots _ _ c.args.s.stats _ c.counters_at.ensures c.counter_numbers.ensures
     (omega (arith, c.requires.1, c.write_ring.auto.image, c.write_head.auto.image))
 
 pub returns : goal.returns
@@ -51,4 +51,4 @@ returns c =
     let s = c.args.s in
     image-stored s c.requires.0 (arrays s c.well_formed.0) c.args.image.now _ _ _
     c.write_head.ensures c.write_ring.ensures
-    (counted s.setup.slots _ s.stats _ _ _ c.put_words.ensures c.counters_at.ensures c.counter_numbers-counters.ensures)
+    (counted s.setup.slots _ s.stats _ _ _ c.put_words.ensures c.counters_at.ensures c.counter_numbers.ensures)

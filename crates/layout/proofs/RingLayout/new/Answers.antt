@@ -1,5 +1,5 @@
 -- The tests of the sizes come first in the list, then 4, then 33, and where none holds the layout is made.
-use Rattle.std.proofs.Common.{sym, ◌∙◌}
+use Rattle.std.proofs.Common.{sym, ◌∙◌, rules}
 use Rattle.layout.specs.Tests.{first}
 use Rattle.layout.specs.Layout.{laid, laid_out}
 use Rattle.layout.proofs.Refusals.{first-early, first-late, passed_none, refused-some, sized}
@@ -8,18 +8,18 @@ use Rattle.layout.proofs.Strides.{total-fits}
 use Rattle.layout.proofs.RingLayout.new.Goals as goal
 
 pub overflows-requires : goal.overflows-requires
-overflows-requires c = sized _ _ _ (passed_none _ _ c.test_sizes.ensures c.in-Passed.is)
+overflows-requires c = sized _ _ _ (passed_none _ _ c.test_sizes.ensures c.in_ok-test_sizes.was)
 
 pub returns-then-overflows : goal.returns-then-overflows
 unfolding laid_out laid first
 returns-then-overflows c =
-    rw (first-late _ _ (passed_none _ _ c.test_sizes.ensures c.in-Passed.is), sym c.overflows.ensures, c.if-overflows.true)
+    rw (first-late _ _ (passed_none _ _ c.test_sizes.ensures c.in_ok-test_sizes.was), sym c.overflows.ensures, c.if-overflows.true)
 
 pub returns-then-bad_frame : goal.returns-then-bad_frame
 unfolding laid_out laid first
 returns-then-bad_frame c =
     rw (
-      first-late _ _ (passed_none _ _ c.test_sizes.ensures c.in-Passed.is),
+      first-late _ _ (passed_none _ _ c.test_sizes.ensures c.in_ok-test_sizes.was),
       sym c.overflows.ensures,
       c.if-overflows.false,
       sym c.bad_frame.ensures,
@@ -27,23 +27,23 @@ returns-then-bad_frame c =
     )
 
 pub of-requires-clause-sized : goal.of-requires-clause-sized
-of-requires-clause-sized c = sized _ _ _ (passed_none _ _ c.test_sizes.ensures c.in-Passed.is)
+of-requires-clause-sized c = sized _ _ _ (passed_none _ _ c.test_sizes.ensures c.in_ok-test_sizes.was)
 
 pub of-requires-clause-packet_bytes_bound : goal.of-requires-clause-packet_bytes_bound
 of-requires-clause-packet_bytes_bound c = (
-  total-fits _ _ _ (sized _ _ _ (passed_none _ _ c.test_sizes.ensures c.in-Passed.is)) (sym c.overflows.ensures ∙ c.if-overflows.false),
+  total-fits _ _ _ (sized _ _ _ (passed_none _ _ c.test_sizes.ensures c.in_ok-test_sizes.was)) (sym c.overflows.ensures ∙ c.if-overflows.false),
   (good-frame _ _ (sym c.bad_frame.ensures ∙ c.if-bad_frame.false)).0,
 )
 
-pub returns-in-Refused : goal.returns-in-Refused
+pub returns-in_err-test_sizes : goal.returns-in_err-test_sizes
 unfolding laid_out laid first
-returns-in-Refused c = rw (first-early _ _ _ (refused-some _ _ _ c.test_sizes.ensures c.in-Refused.is))
+returns-in_err-test_sizes c = rw (first-early _ _ _ (refused-some _ _ _ c.test_sizes.ensures c.in_err-test_sizes.was)) (search rules)
 
-pub returns-else-bad_frame : goal.returns-else-bad_frame
+pub returns : goal.returns
 unfolding laid_out laid first
-returns-else-bad_frame c =
+returns c =
     rw (
-      first-late _ _ (passed_none _ _ c.test_sizes.ensures c.in-Passed.is),
+      first-late _ _ (passed_none _ _ c.test_sizes.ensures c.in_ok-test_sizes.was),
       sym c.overflows.ensures,
       c.if-overflows.false,
       sym c.bad_frame.ensures,

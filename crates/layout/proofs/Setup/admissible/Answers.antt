@@ -7,22 +7,22 @@ use Rattle.layout.proofs.Limits.{limited, limited-small, layout-total}
 use Rattle.layout.proofs.Setup.admissible.Goals as goal
 
 pub layout_of-layout-requires : goal.layout_of-layout-requires
-layout_of-layout-requires c = limited _ (passed_none _ _ c.test_limits.ensures c.in-Passed.is)
+layout_of-layout-requires c = limited _ (passed_none _ _ c.test_limits.ensures c.in-Ok.is)
 
 pub bad_base-requires : goal.bad_base-requires
 unfolding total_of
 bad_base-requires c =
-    rw (layout-total _ _ c.layout_of-layout.ensures) (limited-small _ (limited _ (passed_none _ _ c.test_limits.ensures c.in-Passed.is))).some
+    rw (layout-total _ _ c.layout_of-layout.ensures) (limited-small _ (limited _ (passed_none _ _ c.test_limits.ensures c.in-Ok.is))).some
 
-pub returns-in-Refused : goal.returns-in-Refused
+pub returns-in-Err : goal.returns-in-Err
 unfolding admissible passed
-returns-in-Refused c = rw (first-early _ _ _ (refused-some _ _ _ c.test_limits.ensures c.in-Refused.is))
+returns-in-Err c = rw (first-early _ _ _ (refused-some _ _ _ c.test_limits.ensures c.in-Err.is))
 
-pub returns-in-Passed : goal.returns-in-Passed
+pub returns-in-Ok : goal.returns-in-Ok
 unfolding admissible base_address
-returns-in-Passed c =
+returns-in-Ok c =
     rw (
-      first-late _ _ (passed_none _ _ c.test_limits.ensures c.in-Passed.is),
+      first-late _ _ (passed_none _ _ c.test_limits.ensures c.in-Ok.is),
       passed-only,
       ← layout-total _ _ c.layout_of-layout.ensures,
       sym c.bad_base.ensures,

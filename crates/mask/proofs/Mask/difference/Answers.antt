@@ -13,4 +13,4 @@ returns c =
     words-law (λ x y. bit_and x ((2 ^ 64 - 1) - y)) (λ x y. x && not y)
     (λ x y h l. and_lt 64 x ((2 ^ 64 - 1) - y) h (ones_sub-lt 64 y))
     (λ j x y h l. bit-and j x ((2 ^ 64 - 1) - y) ∙ ap (λ (t : Bool). bit x j && t) (bit_not 64 j y l h))
-    c.args.self c.args.other (search (rules, fits)) (search (rules, fits))
+    c.args.self c.args.other _ (search (rules, fits)) (search (rules, fits)) (search rules)

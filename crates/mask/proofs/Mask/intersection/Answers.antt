@@ -8,5 +8,5 @@ use Rattle.mask.proofs.Mask.intersection.Goals as goal
 
 pub returns : goal.returns
 returns c =
-    words-law bit_and (λ x y. x && y) (and_lt 64) (λ j x y h l. bit-and j x y) c.args.self c.args.other
-    (search (rules, fits)) (search (rules, fits))
+    words-law bit_and (λ x y. x && y) (and_lt 64) (λ j x y h l. bit-and j x y) c.args.self c.args.other _
+    (search (rules, fits)) (search (rules, fits)) (search rules)

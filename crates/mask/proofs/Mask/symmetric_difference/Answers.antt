@@ -9,5 +9,5 @@ use Rattle.mask.proofs.Mask.symmetric_difference.Goals as goal
 
 pub returns : goal.returns
 returns c =
-    words-law bit_xor (λ x y. not (beq x y)) (xor_lt 64) (λ j x y h l. bit-xor j x y) c.args.self c.args.other
-    (search (rules, fits)) (search (rules, fits))
+    words-law bit_xor (λ x y. not (beq x y)) (xor_lt 64) (λ j x y h l. bit-xor j x y) c.args.self c.args.other _
+    (search (rules, fits)) (search (rules, fits)) (search rules)

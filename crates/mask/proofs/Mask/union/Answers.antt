@@ -8,5 +8,5 @@ use Rattle.mask.proofs.Mask.union.Goals as goal
 
 pub returns : goal.returns
 returns c =
-    words-law bit_or (λ x y. x || y) (or_lt 64) (λ j x y h l. bit-or j x y) c.args.self c.args.other
-    (search (rules, fits)) (search (rules, fits))
+    words-law bit_or (λ x y. x || y) (or_lt 64) (λ j x y h l. bit-or j x y) c.args.self c.args.other _
+    (search (rules, fits)) (search (rules, fits)) (search rules)

@@ -7,8 +7,8 @@ use Rattle.mask.proofs.Masks.{places-none}
 use Rattle.mask.proofs.Lists.{more-none, more-next}
 use Rattle.mask.proofs.list.list_word.Goals as goal
 
-pub bounds-list-count : goal.bounds-list-count
-bounds-list-count c =
+pub bounds-list-list : goal.bounds-list-list
+bounds-list-list c =
     let p : 0 < c.loop-left.left = omega arith in
     let n = lowest 64 c.args.base c.loop-left.left c.loop-left.invariant.0 p in
     omega (arith, ap length n.next)

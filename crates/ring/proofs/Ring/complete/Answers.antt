@@ -9,8 +9,7 @@ unfolding completed returned with_queue queue_of with_state with_masks with_out 
 returns c =
     rw (
       c.push_free.ensures,
-      c.new-states.ensures,
-      c.without.ensures,
-      c.without-2.ensures,
+      c.without-self.ensures,
+      c.without-self-2.ensures,
       moved-home c.args.self c.requires.3 c.args.i c.requires.4,
     )

@@ -20,7 +20,7 @@ unfolding hand_test
 returns-then-within c =
     rw (← c.within.ensures, c.if-within.true)
     (c.is_empty.ensures
-    ∙ ap is_empty (c.symmetric_difference.ensures ∙ differs c.args.self.states.filling _ c.args.hand c.mask.ensures))
+    ∙ ap is_empty (c.symmetric_difference.ensures ∙ differs c.args.self.now.states.filling _ c.args.hand c.mask.ensures))
 
 pub returns-else-within : goal.returns-else-within
 unfolding hand_test

@@ -6,4 +6,4 @@ use Rattle.ring.proofs.Ring.is_discarding.Goals as goal
 
 pub returns : goal.returns
 unfolding state_of
-returns c = c.has.ensures ∙ discarding-bit c.args.self.states c.requires.0 c.args.i c.requires.1
+returns c = c.has.ensures ∙ discarding-bit c.args.self.now.states c.requires.0 c.args.i c.requires.1

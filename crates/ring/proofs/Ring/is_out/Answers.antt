@@ -20,9 +20,9 @@ out-bits Discarding = refl
 pub returns : goal.returns
 unfolding state_of
 returns c =
-    let states = c.args.self.states in
+    let states = c.args.self.now.states in
     let i = c.args.i in
     c.has.ensures
     ∙ ap (λ (m : Mask). member m i) c.union.ensures
     ∙ member-table _ i c.requires.1
-    ∙ rw (flying-bit states c.requires.0 i c.requires.1, discarding-bit states c.requires.0 i c.requires.1) (out-bits (state_of c.args.self i))
+    ∙ rw (flying-bit states c.requires.0 i c.requires.1, discarding-bit states c.requires.0 i c.requires.1) (out-bits (state_of c.args.self.now i))

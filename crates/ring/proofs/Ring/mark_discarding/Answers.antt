@@ -8,5 +8,5 @@ use Rattle.ring.proofs.Ring.mark_discarding.Goals as goal
 pub returns : goal.returns
 unfolding discarded with_masks
 returns c =
-    rw (c.new-states.ensures, c.none-none.ensures, c.union.ensures)
+    rw (c.none-self.ensures, c.union-self.ensures)
     (ap (with_masks c.args.self) (moved-discarded c.args.self c.requires))

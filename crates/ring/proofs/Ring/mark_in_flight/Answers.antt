@@ -9,5 +9,5 @@ pub returns : goal.returns
 unfolding marked_in_flight with_state with_masks with_out state_of
 returns c =
     let ring = c.args.self in
-    rw (c.new-states.ensures, c.without.ensures, c.with.ensures)
+    rw (c.without-self.ensures, c.with-self.ensures)
     (ap (with_masks (with_out ring _)) (moved_out ring c.requires.2 c.args.i c.requires.3))

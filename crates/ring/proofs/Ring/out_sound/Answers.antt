@@ -32,17 +32,17 @@ tested home flying discarding twice out placed below wrong n t o p b w =
       member-table (λ k. member flying k && member discarding k) j h,
     ))
 
-pub returns-then-home : goal.returns-then-home
+pub returns : goal.returns
 unfolding out_test misplaced
-returns-then-home c =
-    rw c.if-home.true
+returns c =
+    rw c.in-Some.is
     (c.is_empty.ensures
     ∙ ap is_empty
-    (c.union-then-home.ensures
-    ∙ tested c.args.home.slots c.args.self.states.in_flight c.args.self.states.discarding _ _ _ _ _ c.args.n
+    (c.union-2.ensures
+    ∙ tested c.in-Some.slots c.args.self.now.states.in_flight c.args.self.now.states.discarding _ _ _ _ _ c.args.n
     c.intersection-twice.ensures c.union.ensures c.symmetric_difference-placed.ensures
     c.below.ensures c.symmetric_difference.ensures))
 
-pub returns-else-home : goal.returns-else-home
+pub returns-in_default : goal.returns-in_default
 unfolding out_test
-returns-else-home c = rw c.if-home.false
+returns-in_default c = rw c.in_default.is

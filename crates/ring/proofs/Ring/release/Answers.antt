@@ -7,4 +7,4 @@ use Rattle.ring.proofs.Ring.release.Goals as goal
 pub returns : goal.returns
 unfolding returned with_queue queue_of with_state with_masks state_of
 returns c =
-    rw (c.push_free.ensures, c.new-states.ensures, c.without.ensures, moved_back c.args.self c.requires.2 c.args.i c.requires.3)
+    rw (c.push_free.ensures, c.without-self.ensures, moved_back c.args.self c.requires.2 c.args.i c.requires.3)

@@ -1,10 +1,8 @@
 -- `ring::Ring::sound`: more than 256 slots are refused, and else the pieces joined are the test.
 use Rattle.std.proofs.Common.{rules}
 use borrow.Author.Tests.{lt-leb}
-use Rattle.mask.proofs.Masks.{fits}
 use Rattle.ring.specs.Sound.{sound_ring}
 use Rattle.ring.proofs.Joined.{joined}
-use Rattle.ring.proofs.Wide.{Wide, masks-known}
 use Rattle.ring.proofs.Ring.sound.Goals as goal
 
 pub returns-then-n-gt256 : goal.returns-then-n-gt256
@@ -13,6 +11,5 @@ returns-then-n-gt256 c = rw (lt-leb _ _ c.if-n-gt256.true)
 
 pub returns : goal.returns
 returns c =
-    let wide : Wide c.args.self = record { states = search (rules, fits, masks-known); places = search rules } in
     rw (c.hand_sound.ensures, c.out_sound.ensures, c.count_sound.ensures)
-    (joined c.args.n c.if-n-gt256.false c.args.self c.args.hand wide _ c.home-home.ensures)
+    (joined c.args.n c.if-n-gt256.false c.args.self.now c.args.hand (search rules) _ c.home-home.ensures)

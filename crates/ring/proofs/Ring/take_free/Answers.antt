@@ -4,7 +4,7 @@ use Rattle.std.proofs.Common.{◌≡◌, length, arith, rules}
 use Rattle.ring.specs.Parts.{queue_of, state_of, with_queue, with_masks, with_state}
 use Rattle.ring.specs.Moves.{taken, taken_from}
 use Rattle.ring.proofs.Moves.{moved-taken}
-use Rattle.ring.proofs.Queue.{front_rest, rest-long}
+use Rattle.ring.proofs.Queue.{front_rest, rest-long, moved-down}
 use Rattle.ring.proofs.Ring.take_free.Goals as goal
 
 pub returns-then-len-eq0 : goal.returns-then-len-eq0
@@ -20,8 +20,9 @@ returns c =
     rw (
       queue,
       rest-long ring.free ring.free_len (omega arith),
-      c.new-states.ensures,
-      c.with.ensures,
-      c.moved_down-moved.ensures,
+      c.with-self.ensures,
+      c.from-slot.ensures,
+      c.copy_within.ensures.after,
+      moved-down ring.free ring.free_len,
       moved-taken ring c.requires.1 _ (c.requires.2 _ _ queue),
     )

@@ -1,49 +1,45 @@
 -- `ring::pieces::walk_queue`: where it gives up, one of the facts of the loop fails; else the slots at home are seen.
-use Rattle.std.proofs.Common.{◌≡◌, ℕ, ◌^◌, ◌<◌, ◌≤◌, true, List, length, get_or, take, refl, arith, length-set, rules}
+use Rattle.std.proofs.Common.{◌≡◌, ℕ, ◌^◌, ◌<◌, true, List, length, get_or, take, refl, length-set, rules}
+use Rattle.std.proofs.lemmas.List.{take_all}
 use Rattle.mask.specs.declared.Mask.{Mask}
 use Rattle.mask.proofs.Masks.{Fits, fits}
 use Rattle.ring.specs.Counts.{all_below}
-use Rattle.ring.proofs.Queue.{byte-below}
-use Rattle.ring.proofs.Walk.{Seen, Walking, none-walked, none-fits, too_long, below_next, seen_next, fits_next, stray, twice, walked}
+use Rattle.ring.proofs.Walk.{Seen, Walking, none-walked, none-fits, below_next, seen_next, fits_next, stray, twice, walked}
+use Rattle.ring.proofs.pieces.walk_queue.Goals.{then-n-slot-via-then-n-slot, then-n-slot-via-else-n-slot+then-was-bit-ne0}
 use Rattle.ring.proofs.pieces.walk_queue.Goals as goal
 
 -- what a round starts from, by the loop's invariant
 walking :
-    (n : ℕ) (start : Mask) (len : ℕ) (free : List ℕ) (k : ℕ) (seen : List ℕ) → len ≤ 256 → length free ≡ 256 → k < len → get_or free k 0 < 256 →
-    (length seen ≡ 4) × ((j : ℕ) → j < 4 → get_or seen j 0 < 2 ^ 64) × (all_below n (take k free) ≡ true) × Seen start (take k free) seen →
-    Walking n start len free k seen
-walking n start len free k seen s p i b inv =
-    record { short = s; places = p; inside = i; words = inv.0; fits = inv.1; byte = b; below = inv.2; marked = inv.3 }
+    (n : ℕ) (start : Mask) (queue : List ℕ) (k : ℕ) (seen : List ℕ) (slot : ℕ) → k < length queue → slot ≡ get_or queue k 0 → slot < 256 →
+    (length seen ≡ 4) × ((j : ℕ) → j < 4 → get_or seen j 0 < 2 ^ 64) × (all_below n (take k queue) ≡ true) × Seen start (take k queue) seen →
+    Walking n start queue k seen slot
+walking n start queue k seen slot i e b inv =
+    record { inside = i; words = inv.0; fits = inv.1; entry = e; byte = b; below = inv.2; marked = inv.3 }
 
-pub returns-then-len-gt256 : goal.returns-then-len-gt256
-returns-then-len-gt256 c = too_long _ _ _ _ _ c.if-len-gt256.true
-
-pub loop-k-init : goal.loop-k-init
+pub loop-place-init : goal.loop-place-init
 unfolding all_below
-loop-k-init c =
+loop-place-init c =
     let start : Fits c.args.start = search (rules, fits) in
     (refl, none-fits c.args.start start, refl, none-walked c.args.start)
 
 pub returns-then-n-slot : goal.returns-then-n-slot
 returns-then-n-slot c =
-    let byte : get_or c.args.free c.loop-k.k 0 < 256 = byte-below (search rules) in
-    let w = walking c.args.n c.args.start c.args.len c.args.free c.loop-k.k c.loop-k.seen (omega arith) (search rules) (omega arith) byte c.loop-k.invariant in
-    stray w _ c.if-n-slot.true
+    let byte : c.from-slot.result < 256 = search rules in
+    let w = walking _ _ _ _ _ _ c.loop-place-test.true c.from-slot.ensures byte c.loop-place.invariant in
+    elim c.then-n-slot.branch [
+      | then-n-slot-via-then-n-slot b ↦ stray w _ b.if-n-slot.true
+      | then-n-slot-via-else-n-slot+then-was-bit-ne0 b ↦ twice w _ b.if-was-bit-ne0.true
+    ]
 
-pub returns-then-was-bit-ne0 : goal.returns-then-was-bit-ne0
-returns-then-was-bit-ne0 c =
-    let byte : get_or c.args.free c.loop-k.k 0 < 256 = byte-below (search rules) in
-    let w = walking c.args.n c.args.start c.args.len c.args.free c.loop-k.k c.loop-k.seen (omega arith) (search rules) (omega arith) byte c.loop-k.invariant in
-    twice w _ c.if-was-bit-ne0.true
-
-pub loop-k-preserved : goal.loop-k-preserved
-loop-k-preserved c =
-    let byte : get_or c.args.free c.loop-k.k 0 < 256 = byte-below (search rules) in
-    let w = walking c.args.n c.args.start c.args.len c.args.free c.loop-k.k c.loop-k.seen (omega arith) (search rules) (omega arith) byte c.loop-k.invariant in
+pub loop-place-preserved : goal.loop-place-preserved
+loop-place-preserved c =
+    let byte : c.from-slot.result < 256 = search rules in
+    let w = walking _ _ _ _ _ _ c.loop-place-test.true c.from-slot.ensures byte c.loop-place.invariant in
     (simp length-set w.words, fits_next w, below_next w c.if-n-slot.false, seen_next w c.if-was-bit-ne0.false)
 
 pub returns : goal.returns
 returns c =
-    let e : c.loop-k.k ≡ c.args.len = omega arith in
-    walked c.args.n c.args.start c.args.len c.args.free c.loop-k.seen (omega arith) c.loop-k.k e
-    c.loop-k.invariant.1 c.loop-k.invariant.2 c.loop-k.invariant.3
+    let queue = c.args.queue.now in
+    let e : take c.loop-place.place-index queue ≡ queue = take_all _ _ c.loop-place-test.false in
+    walked c.args.n c.args.start (length queue) queue c.loop-place.seen c.requires
+    c.loop-place.invariant.1 (rw e at c.loop-place.invariant.2) (rw e at c.loop-place.invariant.3)

@@ -1,14 +1,10 @@
 -- `slot::lengths::set_packet_lengths` meets its contract: the header and then the descriptors are written at the slot's places, and the shares sum to the bytes.
 -- Assumes nothing.
 use mathlib.Core.Path.{ap, ◌∙◌}
-use native.Mathlib.Omega.{arith}
 use Rattle.sys.specs.Bytes.{store}
 use Rattle.ledger.specs.Slot.{shares, descriptors}
-use Rattle.slot.proofs.Commits.{capacity-is, shares_parts}
+use Rattle.slot.proofs.Commits.{shares_parts}
 use Rattle.slot.proofs.lengths.set_packet_lengths.Goals as goal
-
-pub set_header-requires : goal.set_header-requires
-set_header-requires c = omega (arith, capacity-is _ _ _ c.places-at.ensures)
 
 pub returns : goal.returns
 returns c =

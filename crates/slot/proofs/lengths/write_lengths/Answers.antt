@@ -1,9 +1,8 @@
--- `slot::lengths::write_lengths` meets its contract. What holds at each iteration: storing the descriptors of the lengths left at the place reached gives the block that the contract asks for.
--- An iteration stores the first of them; the measure is how many are left. Assumes nothing.
-use mathlib.Core.Path.{◌≡◌, refl, sym, ap, ◌∙◌}
+-- `slot::lengths::write_lengths` meets its contract. What holds at each iteration: storing the descriptors of the lengths left at the
+-- place reached gives the block that the contract asks for. An iteration stores the first of them. Assumes nothing.
+use mathlib.Core.Path.{◌≡◌, sym, ap, ◌∙◌}
 use mathlib.Core.List.{List}
 use Prim.Native.Nat.{ℕ, suc, ◌+◌, ◌*◌, ◌≤◌, ◌<◌}
-use native.Mathlib.Nat.{add-zero}
 use native.Mathlib.Numerals.{add-one}
 use native.Mathlib.Omega.{arith}
 use lib.ListN.{length, drop, get_or, drop_of_length-le}
@@ -26,13 +25,10 @@ turn at k lengths block h =
 done : (at k : ℕ) (lengths block : List ℕ) → length lengths ≤ k → block ≡ store (at + desc_size * k) (descriptors (drop k lengths)) block
 done at k lengths block h = rw (drop_of_length-le lengths h) (sym (store-none (at + desc_size * k) block))
 
-pub loop-k-init : goal.loop-k-init
-loop-k-init c = (refl, rw add-zero)
-
 pub set_packet-requires : goal.set_packet-requires
 set_packet-requires c =
     let loop = c.loop-k in
-    omega (arith, each_within c.args.most c.args.lengths.now loop.k c.requires.2)
+    omega (arith, each_within c.args.lengths.now loop.k)
 
 pub returns : goal.returns
 returns c = done _ c.loop-k.k _ _ c.loop-k-test.false ∙ c.loop-k.invariant.1

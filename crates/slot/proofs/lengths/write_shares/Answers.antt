@@ -1,11 +1,9 @@
--- `slot::lengths::write_shares` meets its contract. What holds at each iteration: storing the descriptors that are left at the place reached gives the block that the contract asks for.
--- An iteration stores the first of them; the measure is how many are left. Assumes nothing.
-use mathlib.Core.Path.{◌≡◌, refl, sym, ap, ◌∙◌}
+-- `slot::lengths::write_shares` meets its contract. What holds at each iteration: storing the descriptors that are left at the
+-- place reached gives the block that the contract asks for. An iteration stores the first of them. Assumes nothing.
+use mathlib.Core.Path.{◌≡◌, sym, ap, ◌∙◌}
 use mathlib.Core.List.{List}
 use Prim.Native.Nat.{ℕ, ◌+◌, ◌-◌, ◌*◌, ◌≤◌, ◌<◌, min}
-use native.Mathlib.Nat.{add-zero, sub-zero, min-le_left, min-le_right}
 use native.Mathlib.Omega.{arith}
-use borrow.Author.Rules.{rules}
 use Rattle.sys.specs.Bytes.{store}
 use Rattle.sys.specs.Descriptor.{desc_size, desc_bytes, packet_of}
 use Rattle.ledger.specs.Slot.{shares, descriptors}
@@ -24,15 +22,6 @@ turn at packets most rest k take block h e =
 -- no packet is left
 done : (at packets most rest k : ℕ) (block : List ℕ) → packets ≤ k → block ≡ store (at + desc_size * k) (descriptors (shares (packets - k) most rest)) block
 done at packets most rest k block h = rw (shares-none packets most rest k h) (sym (store-none (at + desc_size * k) block))
-
-pub loop-k-init : goal.loop-k-init
-loop-k-init c = (search rules, refl, rw (add-zero, sub-zero))
-
-pub set_packet-requires : goal.set_packet-requires
-set_packet-requires c = omega (arith, min-le_right c.loop-k.rest c.args.most)
-
-pub overflow_sub-rest : goal.overflow_sub-rest
-overflow_sub-rest c = omega (arith, min-le_left c.loop-k.rest c.args.most)
 
 pub returns : goal.returns
 returns c = done _ _ _ c.loop-k.rest c.loop-k.k _ c.loop-k-test.false ∙ c.loop-k.invariant.2

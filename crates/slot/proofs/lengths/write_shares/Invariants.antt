@@ -1,5 +1,5 @@
--- `slot::lengths::write_shares` meets its contract. What holds at each iteration: storing the descriptors that are left at the place reached gives the block that the contract asks for.
--- An iteration stores the first of them; the measure is how many are left. Assumes nothing.
+-- `slot::lengths::write_shares` meets its contract. What holds at each iteration: storing the descriptors that are left at the
+-- place reached gives the block that the contract asks for. An iteration stores the first of them. Assumes nothing.
 use mathlib.Core.Path.{◌≡◌}
 use Prim.Native.Nat.{◌+◌, ◌-◌, ◌*◌, ◌≤◌}
 use lib.ListN.{length}
@@ -13,6 +13,3 @@ invariant-loop-k l =
     (l.rest ≤ l.bytes)
     × (length l.block ≡ length l.initial.block)
     × (store (l.at + desc_size * l.k) (descriptors (shares (l.packets - l.k) l.most l.rest)) l.block ≡ store l.at (descriptors (shares l.packets l.most l.bytes)) l.initial.block)
-
-abbrev pub decreases-loop-k : goal.decreases-loop-k
-decreases-loop-k l = l.packets - l.k

@@ -12,7 +12,7 @@ pub set_packet_lengths-requires : goal.set_packet_lengths-requires
 set_packet_lengths-requires c =
     let slot = c.places-at.ensures in
     let block = c.args.block.now in
-    let home = silence-parts _ _ _ slot c.fill.new.payload block (omega arith) c.fill.ensures in
+    let home = silence-parts _ _ _ slot c.fill.new.self block (omega arith) (c.fill.ensures.after (λ y is. is)) in
     (c.requires.0, c.requires.1, ap length home ∙ length-silenced _ _ block ∙ c.requires.2, omega (arith, capacity-is _ _ _ slot))
 
 pub returns : goal.returns
@@ -22,5 +22,6 @@ returns c =
     let slot = c.places-at.ensures in
     let block = c.args.block.now in
     c.set_packet_lengths.ensures
-    ∙ ap (committed s i (lengths_of s c.places-at.result.capacity)) (silence-parts _ _ _ slot c.fill.new.payload block (omega arith) c.fill.ensures)
+    ∙ ap (committed s i (lengths_of s c.places-at.result.capacity))
+    (silence-parts _ _ _ slot c.fill.new.self block (omega arith) (c.fill.ensures.after (λ y is. is)))
     ∙ ap (λ (n : ℕ). committed s i (lengths_of s n) (silenced s i block)) (capacity-is _ _ _ slot)

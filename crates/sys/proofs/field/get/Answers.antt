@@ -12,13 +12,6 @@ seven width i value h k below =
     let fewer : width - i ≤ 7 = omega arith in
     lt_of_lt_of_le below (pow-le-pow_right (lit< tt) fewer)
 
--- no byte is read yet
-begin : (at width : ℕ) (s : List ℕ) → (0 ≡ field (at + width) (width - width) s) × (0 < 256 ^ (width - width))
-unfolding of_le
-begin at width s =
-    let none : width - width ≡ 0 = omega arith in
-    rw none (refl, lit< tt)
-
 -- one byte below what is read
 turn : (at width i value b : ℕ) (s : List ℕ) → 0 < i → i ≤ width → at + width ≤ length s
     → value ≡ field (at + i) (width - i) s → value < 256 ^ (width - i) → b ≡ slice_index_or s (at + (i - 1)) 0 → b < 256
@@ -30,19 +23,22 @@ turn at width i value b s h k room e below eb hb =
     rw more (rw (field-suc (at + (i - 1)) (width - i) s inside, ← next, ← e, ← eb) refl, below_suc (width - i) value b below hb)
 
 pub loop-i-init : goal.loop-i-init
+unfolding of_le
 loop-i-init c =
-    let b = begin c.args.at c.args.width c.args.s.now in
-    record { in_range = omega arith; read = b.0; below = b.1 }
+    let none : c.args.width - c.args.width ≡ 0 = omega arith in
+    rw none (record { read = refl; below = lit< tt })
 
 pub overflow_mul-value : goal.overflow_mul-value
 overflow_mul-value c = omega (arith, seven c.args.width c.loop-i.i c.loop-i.value (omega arith) (omega arith) c.loop-i.invariant.below)
 
 pub overflow_add-value : goal.overflow_add-value
-overflow_add-value c = omega (arith, seven c.args.width c.loop-i.i c.loop-i.value (omega arith) (omega arith) c.loop-i.invariant.below)
+overflow_add-value c =
+    let byte = c.type_inv.s (c.args.at + (c.loop-i.i - 1)) in
+    omega (arith, seven c.args.width c.loop-i.i c.loop-i.value (omega arith) (omega arith) c.loop-i.invariant.below)
 
 pub loop-i-preserved : goal.loop-i-preserved
 loop-i-preserved c =
     let loop = c.loop-i in
-    let more = turn c.args.at c.args.width loop.i loop.value c.wide-byte.result c.args.s.now (omega arith) (omega arith) (omega arith)
-    loop.invariant.read loop.invariant.below c.wide-byte.ensures.0 c.wide-byte.ensures.1 in
-    record { in_range = omega arith; read = more.0; below = more.1 }
+    let more = turn c.args.at c.args.width loop.i loop.value c.from.result c.args.s.now (omega arith) (omega arith) (omega arith)
+    loop.invariant.read loop.invariant.below c.from.ensures (omega (arith, c.type_inv.s (c.args.at + (loop.i - 1)))) in
+    record { read = more.0; below = more.1 }

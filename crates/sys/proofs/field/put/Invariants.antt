@@ -1,14 +1,7 @@
--- At each iteration, storing what is left of the number at the place reached gives the slice that the contract asks for.
-use Rattle.std.proofs.Common.{◌≡◌, ◌+◌, ◌-◌, ◌≤◌, length}
-use Rattle.sys.specs.Bytes.{le, store}
+-- At each iteration, the bytes written so far and what is left of the number are the field's bytes; those not reached are as they were.
+use Rattle.std.proofs.Common.{◌≡◌, ◌-◌, ◌++◌, take}
+use Rattle.sys.specs.Bytes.{le}
 use Rattle.sys.proofs.field.put.Given as goal
 
-abbrev pub invariant-loop-i : goal.invariant-loop-i
-invariant-loop-i l = record {
-  in_range : l.i ≤ l.width;
-  same_length : length l.s ≡ length l.fn.s;
-  to_store : store (l.at + l.i) (le (l.width - l.i) l.rest) l.s ≡ store l.at (le l.width l.fn.value) l.fn.s;
-}
-
-abbrev pub decreases-loop-i : goal.decreases-loop-i
-decreases-loop-i l = l.width - l.i
+abbrev pub invariant-loop-byte : goal.invariant-loop-byte
+invariant-loop-byte l = take l.byte-index l.byte-items ++ le (l.width - l.byte-index) l.rest ≡ le l.width l.value

@@ -1,16 +1,13 @@
--- `usbfs_iso::usbfs_iso_give_back` meets its contract: what every call from C shows (Answering of from_c), for this call. Assumes nothing.
-use mathlib.Core.Path.{refl}
-use Rattle.ledger.specs.Calls.{Call, lent_to}
+-- `usbfs_iso::usbfs_iso_give_back` meets its contract: what every call from C shows (Answering of from_c). Assumes nothing.
+use borrow.Author.Rules.{rules}
 use Rattle.from_c.specs.Calls.{rule_from_c}
-use Rattle.from_c.proofs.Answering.{told-called, writable, finished}
+use Rattle.from_c.proofs.Answering.{writable_told, finished_told}
 use Rattle.usbfs_iso.proofs.calls.usbfs_iso_give_back.Goals as goal
 
 pub answered-requires : goal.answered-requires
-unfolding rule_from_c lent_to
-answered-requires c =
-    writable Call.give_back _ _ c.read_image.ensures _ _ (told-called _ refl _ _ _ c.give_back-reply.ensures)
+unfolding rule_from_c
+answered-requires c = search (rules, writable_told)
 
 pub returns : goal.returns
-unfolding rule_from_c lent_to
-returns c =
-    finished Call.give_back _ _ c.read_image.ensures _ _ (told-called _ refl _ _ _ c.give_back-reply.ensures) _ _ _ _ c.answered.ensures
+unfolding rule_from_c
+returns c = search (rules, finished_told)
