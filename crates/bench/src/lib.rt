@@ -1,5 +1,5 @@
 // The hot cycle, for the benchmark (docs/PERFORMANCE.md): reaped of the oldest slot, reaped Nothing, turn, commit_full,
-// submitted Accepted. It is a host's loop, each call made at one place of the code. A Rust program links it by value
+// submitted. It is a host's loop, each call made at one place of the code. A Rust program links it by value
 // (crates/bench_c) and on a record that is lent (crates/bench_lent), and takes the time. These functions promise that
 // they are safe and end.
 #![tactic(auto)]

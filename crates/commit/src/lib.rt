@@ -43,12 +43,11 @@ fn commit_held(s: Stream, i: usize, bytes: usize, block: &mut [u8]) -> Reply
     requires { (sound s ≡ true) × (s.hand ≡ Hand.Held i) × (length block.old ≡ total_of s.setup) }
     ensures { Gives s (commit_held bytes i s.setup (view s) block.old) result block.new }
 {
-    let setup = s.setup;
-    let capacity = slot_capacity(setup);
+    let capacity = slot_capacity(s.setup);
     if capacity < bytes {
         return put_back(s, i, Answer::Refused(Error::CommitTooLong));
     }
-    set_packet_lengths(setup, block, i, bytes);
+    set_packet_lengths(s.setup, block, i, bytes);
     send(s, i)
 }
 
@@ -58,14 +57,13 @@ fn packets_held(s: Stream, i: usize, lengths: &[usize], block: &mut [u8]) -> Rep
     ensures { Gives s (packets_held lengths.now i s.setup (view s) block.old)
         result block.new }
 {
-    let setup = s.setup;
-    if lengths.len() != setup.packets_per_urb {
+    if lengths.len() != s.setup.packets_per_urb {
         return put_back(s, i, Answer::Refused(Error::PacketCount));
     }
-    if any_above(lengths, setup.packet_bytes) {
+    if any_above(lengths, s.setup.packet_bytes) {
         return put_back(s, i, Answer::Refused(Error::PacketTooLong));
     }
-    set_packet_lengths_exact(setup, block, i, lengths);
+    set_packet_lengths_exact(s.setup, block, i, lengths);
     send(s, i)
 }
 

@@ -35,9 +35,8 @@ pub fn put_back(s: Stream, i: usize, answer: Answer) -> Reply
     requires { (sound s ≡ true) × (holds s.hand i ≡ true) }
     ensures { Gives s (put_back i answer (view s) []) result [] }
 {
-    let ring = s.ring;
     Reply {
-        stream: with_hand(s, ring.release(i), Hand::Idle),
+        stream: with_hand(s, s.ring.release(i), Hand::Idle),
         answer,
     }
 }

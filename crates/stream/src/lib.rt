@@ -1,4 +1,4 @@
-// The record of an output stream, the kernel's replies, and the answers of the calls.
+// The record of an output stream, and the answers of the calls.
 #![tactic(auto)]
 
 ghost use Rattle.std.specs.Prelude.{◌≡◌};
@@ -73,7 +73,7 @@ pub struct Reply {
 }
 
 impl Stream {
-    // Internal: the record of these parts. Every record is made here.
+    // Internal: the record of these parts.
     pub fn new(setup: Setup, ring: Ring, hand: Hand, flags: Flags, stats: IsoStats) -> Stream
         ensures { result ≡ record { setup = setup; ring = ring; hand = hand; flags = flags; stats = stats } }
     {

@@ -12,9 +12,9 @@ use Rattle.commit.proofs.packets_held.Goals as goal
 pub put_back-requires : goal.put_back-requires
 put_back-requires c = (c.requires.0, holding _ _ c.requires.1)
 
-pub returns-then-lengths-setup : goal.returns-then-lengths-setup
-returns-then-lengths-setup c =
-    ends-back c.args.s c.args.i _ _ _ (Answer.Refused Error.PacketCount) (wrong-count _ _ _ _ _ c.if-lengths-setup.true) c.put_back.ensures
+pub returns-then-lengths-s : goal.returns-then-lengths-s
+returns-then-lengths-s c =
+    ends-back c.args.s c.args.i _ _ _ (Answer.Refused Error.PacketCount) (wrong-count _ _ _ _ _ c.if-lengths-s.true) c.put_back.ensures
 
 pub put_back-requires-then-any_above : goal.put_back-requires-then-any_above
 put_back-requires-then-any_above c = (c.requires.0, holding _ _ c.requires.1)
@@ -22,7 +22,7 @@ put_back-requires-then-any_above c = (c.requires.0, holding _ _ c.requires.1)
 pub returns-then-any_above : goal.returns-then-any_above
 returns-then-any_above c =
     ends-back c.args.s c.args.i _ _ _ (Answer.Refused Error.PacketTooLong)
-    (one-above _ _ _ _ _ c.if-lengths-setup.false (sym c.any_above.ensures ∙ c.if-any_above.true))
+    (one-above _ _ _ _ _ c.if-lengths-s.false (sym c.any_above.ensures ∙ c.if-any_above.true))
     c.put_back-then-any_above.ensures
 
 pub set_packet_lengths_exact-requires : goal.set_packet_lengths_exact-requires
@@ -34,12 +34,12 @@ set_packet_lengths_exact-requires c =
         slot-below s c.requires.0 (arrays s c.well_formed.0) c.args.i (holding _ _ c.requires.1),
         c.requires.2,
       );
-      lengths_len = (c.if-lengths-setup.false, sym c.any_above.ensures ∙ c.if-any_above.false);
+      lengths_len = (c.if-lengths-s.false, sym c.any_above.ensures ∙ c.if-any_above.false);
     }
 
 pub returns : goal.returns
 returns c =
     ends-sent c.args.s c.args.i _ _ _ _ _
-    (none_above _ _ _ _ _ c.if-lengths-setup.false (sym c.any_above.ensures ∙ c.if-any_above.false))
+    (none_above _ _ _ _ _ c.if-lengths-s.false (sym c.any_above.ensures ∙ c.if-any_above.false))
     c.send.ensures
     c.set_packet_lengths_exact.ensures
