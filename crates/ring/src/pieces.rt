@@ -28,17 +28,19 @@ fn walk_queue(start: Mask, queue: &[u8], n: usize) -> Option<Mask>
 
 impl Ring {
     // The hand's slot is the only Filling one, none when Idle.
-    fn hand_sound(&self, n: usize, hand: Hand) -> bool
+    pub fn hand_sound(&self, n: usize, hand: Hand) -> bool
         ensures { result ≡ hand_test n self.now hand }
     {
         let filling = self.states.filling;
         hand.within(n) && filling.symmetric_difference(hand.mask()).is_empty()
     }
 
-    // The slots at home, in the queue or Filling; None where one is there twice.
+    // The slots at home, in the queue or Filling; None where one is there twice. `places` is what the type says: a
+    // caller that has the ring behind a reference knows it by this.
     #[tactic(auto, using(crate::proofs::Walk::too_long), unfolding(crate::specs::Parts::queue_of))]
-    fn home(&self, n: usize) -> Option<Mask>
-        ensures { result ≡ home_of n self.now.states.filling self.now.free_len (queue_of self.now) }
+    pub fn home(&self, n: usize) -> Option<Mask>
+        ensures slots { result ≡ home_of n self.now.states.filling self.now.free_len (queue_of self.now) }
+        ensures places { length self.now.free ≡ 256 }
     {
         // The places are copied out: lent from the ring, they would have the compiler store all of it.
         let free = self.free;
@@ -47,7 +49,7 @@ impl Ring {
 
     // Every slot below n is at home or in one of the other two masks, and no other is.
     #[inline(always)]
-    fn out_sound(&self, n: usize, home: Option<Mask>) -> bool
+    pub fn out_sound(&self, n: usize, home: Option<Mask>) -> bool
         ensures { result ≡ out_test n self.now home }
     {
         let Some(slots) = home else {
@@ -64,7 +66,7 @@ impl Ring {
 
     // The out count is how many of n slots are not at home.
     #[tactic(auto, unfolding(crate::specs::Tests::count_test))]
-    fn count_sound(&self, n: usize, hand: Hand) -> bool
+    pub fn count_sound(&self, n: usize, hand: Hand) -> bool
         ensures { result ≡ count_test n self.now hand }
     {
         let home = self.free_len.wrapping_add(hand.count());

@@ -1,3 +1,4 @@
 pub mod Soundness
+pub mod Joined
 pub mod Numbers
 pub mod Arrays

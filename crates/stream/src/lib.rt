@@ -86,12 +86,16 @@ impl Stream {
         }
     }
 
-    // Whether the record breaks nothing of refusal 8's list, whatever it holds.
-    #[tactic(auto, unfolding(crate::specs::Sound::sound))]
+    // Whether the record breaks nothing of refusal 8's list, whatever it holds: the setup's test and the ring's pieces.
     #[inline(always)]
     pub fn sound(&self) -> bool
         ensures { result ≡ sound self.now }
     {
-        self.setup.admissible() && self.ring.sound(self.setup.slots, self.hand)
+        let n = self.setup.slots;
+        let home = self.ring.home(n);
+        self.setup.admissible()
+            & self.ring.hand_sound(n, self.hand)
+            & self.ring.out_sound(n, home)
+            & self.ring.count_sound(n, self.hand)
     }
 }

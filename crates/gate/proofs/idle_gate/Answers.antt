@@ -1,16 +1,9 @@
--- `gate::idle_gate` meets its contract: the refusals of block_gate first, then by the hand. Assumes nothing.
-use Rattle.std.proofs.Common.{rules}
-use Rattle.gate.specs.Gate.{idle_gate, idle_test, block_gate, and_then, idle_hand}
+-- `gate::idle_gate` meets its contract: it goes by the record's own test. Assumes nothing.
+use Rattle.gate.proofs.Gates.{gate-asks, idle-is}
 use Rattle.gate.proofs.idle_gate.Goals as goal
 
-pub returns-in_err-block_gate : goal.returns-in_err-block_gate
-unfolding idle_gate idle_test block_gate and_then idle_hand
-returns-in_err-block_gate c = search rules
+pub idle_test-requires : goal.idle_test-requires
+idle_test-requires c = gate-asks c.args.s.now c.args.lent c.sound.ensures
 
-pub returns-in-Idle : goal.returns-in-Idle
-unfolding idle_gate idle_test block_gate and_then idle_hand
-returns-in-Idle c = search rules
-
-pub returns-in-Held : goal.returns-in-Held
-unfolding idle_gate idle_test block_gate and_then idle_hand
-returns-in-Held c = search rules
+pub returns : goal.returns
+returns c = idle-is c.args.s.now c.args.lent c.sound.ensures c.idle_test.ensures

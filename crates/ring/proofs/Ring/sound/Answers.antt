@@ -1,5 +1,4 @@
 -- `ring::Ring::sound`: more than 256 slots are refused, and else the pieces joined are the test.
-use Rattle.std.proofs.Common.{rules}
 use borrow.Author.Tests.{lt-leb}
 use Rattle.ring.specs.Sound.{sound_ring}
 use Rattle.ring.proofs.Joined.{joined}
@@ -12,4 +11,4 @@ returns-then-n-gt256 c = rw (lt-leb _ _ c.if-n-gt256.true)
 pub returns : goal.returns
 returns c =
     rw (c.hand_sound.ensures, c.out_sound.ensures, c.count_sound.ensures)
-    (joined c.args.n c.if-n-gt256.false c.args.self.now c.args.hand (search rules) _ c.home-home.ensures)
+    (joined c.args.n c.if-n-gt256.false c.args.self.now c.args.hand c.home-home.ensures.places _ c.home-home.ensures.slots)
