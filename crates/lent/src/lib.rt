@@ -4,26 +4,19 @@
 
 pub mod local;
 
-ghost use Rattle.std.specs.Prelude.{◌≡◌, []};
+ghost use Rattle.std.specs.Prelude.{[]};
 ghost use Rattle.ledger.specs.Calls.{Call};
 ghost use Rattle.ledger.specs.Told.{Told};
 
-use stream::{Answer, Reply, Stream};
-
-// Stores a reply's record, and gives its answer.
-fn store(reply: Reply, s: &mut Stream) -> Answer
-    ensures record_stored { s.new ≡ reply.stream }
-    ensures answer { result ≡ reply.answer }
-{
-    *s = reply.stream;
-    reply.answer
-}
+use stream::{Answer, Stream};
 
 // turn::turn on a lent record.
 pub fn turn(s: &mut Stream, block: &mut [u8]) -> Answer
     ensures { Told (Call.turn block.old) s.old result s.new block.new }
 {
-    store(turn::turn(*s, block), s)
+    let reply = turn::turn(*s, block);
+    *s = reply.stream;
+    reply.answer
 }
 
 // commit::commit on a lent record.
@@ -31,7 +24,9 @@ pub fn commit(s: &mut Stream, bytes: usize, block: &mut [u8]) -> Answer
     ensures { Told (Call.commit bytes block.old)
         s.old result s.new block.new }
 {
-    store(commit::commit(*s, bytes, block), s)
+    let reply = commit::commit(*s, bytes, block);
+    *s = reply.stream;
+    reply.answer
 }
 
 // commit::commit_full on a lent record.
@@ -39,7 +34,9 @@ pub fn commit_full(s: &mut Stream, block: &mut [u8]) -> Answer
     ensures { Told (Call.commit_full block.old)
         s.old result s.new block.new }
 {
-    store(commit::commit_full(*s, block), s)
+    let reply = commit::commit_full(*s, block);
+    *s = reply.stream;
+    reply.answer
 }
 
 // commit::commit_packets on a lent record.
@@ -47,7 +44,9 @@ pub fn commit_packets(s: &mut Stream, lengths: &[usize], block: &mut [u8]) -> An
     ensures { Told (Call.commit_packets lengths.now block.old)
         s.old result s.new block.new }
 {
-    store(commit::commit_packets(*s, lengths, block), s)
+    let reply = commit::commit_packets(*s, lengths, block);
+    *s = reply.stream;
+    reply.answer
 }
 
 // submitted::submitted on a lent record.
@@ -55,7 +54,9 @@ pub fn submitted(s: &mut Stream, reply: Result<(), u32>, block: &mut [u8]) -> An
     ensures { Told (Call.submitted reply block.old)
         s.old result s.new block.new }
 {
-    store(submitted::submitted(*s, reply, block), s)
+    let sent = submitted::submitted(*s, reply, block);
+    *s = sent.stream;
+    sent.answer
 }
 
 // reaped::reaped on a lent record.
@@ -63,33 +64,43 @@ pub fn reaped(s: &mut Stream, reply: Result<usize, u32>, block: &[u8]) -> Answer
     ensures { Told (Call.reaped reply block.now)
         s.old result s.new block.now }
 {
-    store(reaped::reaped(*s, reply, block), s)
+    let done = reaped::reaped(*s, reply, block);
+    *s = done.stream;
+    done.answer
 }
 
 // control::give_back on a lent record.
 pub fn give_back(s: &mut Stream) -> Answer
     ensures { Told Call.give_back s.old result s.new [] }
 {
-    store(control::give_back(*s), s)
+    let reply = control::give_back(*s);
+    *s = reply.stream;
+    reply.answer
 }
 
 // control::start on a lent record.
 pub fn start(s: &mut Stream) -> Answer
     ensures { Told Call.start s.old result s.new [] }
 {
-    store(control::start(*s), s)
+    let reply = control::start(*s);
+    *s = reply.stream;
+    reply.answer
 }
 
 // control::stop on a lent record.
 pub fn stop(s: &mut Stream, list: &mut [usize]) -> Answer
     ensures { Told (Call.stop list.old) s.old result s.new list.new }
 {
-    store(control::stop(*s, list), s)
+    let reply = control::stop(*s, list);
+    *s = reply.stream;
+    reply.answer
 }
 
 // control::finish on a lent record.
 pub fn finish(s: &mut Stream) -> Answer
     ensures { Told Call.finish s.old result s.new [] }
 {
-    store(control::finish(*s), s)
+    let reply = control::finish(*s);
+    *s = reply.stream;
+    reply.answer
 }
