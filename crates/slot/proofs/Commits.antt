@@ -1,6 +1,6 @@
 -- Laws of a commit and of silence: written at the slot's places they are what `committed` and `silenced` say, and silence keeps the
--- block's length; the sum of lengths of at most packet_bytes fits 32 bits. The places are the slot's by an equation, and each law rewrites
--- by it. Assumes nothing.
+-- block's length; lengths of at most packet_bytes sum to at most p × b, which fits 32 bits. The places are the slot's by an equation, and
+-- each law rewrites by it. Assumes nothing.
 use mathlib.Core.Path.{◌≡◌, sym, ap, ◌∙◌}
 use mathlib.Core.Bool.{false}
 use mathlib.Core.List.{List}
@@ -40,12 +40,15 @@ module _ (s : Setup) (i : ℕ) (r : Places) (placed : Placed s i r) where
   pub capacity-is : r.capacity ≡ capacity_of s
   capacity-is = placed.capacity ∙ (λ k. placed.packets k * placed.fill k)
 
-  -- one length a packet and none above b: the sum is at most p × b, which fits 32 bits
+  -- one length a packet and none above b: the sum is at most p × b
   pub sum_fits : (lengths : List ℕ) → length lengths ≡ s.packets_per_urb
+      → any_above s.packet_bytes lengths ≡ false → sum lengths ≤ s.packets_per_urb * s.packet_bytes
+  sum_fits lengths e none = rw (← e) (sum-within s.packet_bytes lengths none)
+
+  -- and so fits 32 bits
+  pub sum_in_32 : (lengths : List ℕ) → length lengths ≡ s.packets_per_urb
       → any_above s.packet_bytes lengths ≡ false → sum lengths < 2 ^ 32
-  sum_fits lengths e none =
-      let most : sum lengths ≤ s.packets_per_urb * s.packet_bytes = rw (← e) (sum-within s.packet_bytes lengths none) in
-      omega (arith, placed.small-payload)
+  sum_in_32 lengths e none = let most = sum_fits lengths e none in omega (arith, placed.small-payload)
 
   -- the header's four fields and then the descriptors
   pub commit-parts : (lengths block : List ℕ) (total : ℕ) → total ≡ sum lengths

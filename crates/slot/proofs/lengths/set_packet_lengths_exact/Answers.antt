@@ -5,26 +5,26 @@ use Rattle.std.specs.List.{sum as list_sum}
 use Rattle.sys.specs.Bytes.{store}
 use Rattle.ledger.specs.Slot.{descriptors}
 use Rattle.slot.proofs.PacketLengths.{sum-is}
-use Rattle.slot.proofs.Commits.{sum_fits, commit-parts}
+use Rattle.slot.proofs.Commits.{sum_in_32, commit-parts}
 use Rattle.slot.proofs.lengths.set_packet_lengths_exact.Goals as goal
 
 pub sum-requires-clause-fits : goal.sum-requires-clause-fits
 sum-requires-clause-fits c =
     let asked = c.requires.lengths_len in
     let fits : list_sum c.args.lengths.now < 2 ^ 64 =
-    omega (arith, sum-is c.args.lengths.now, sum_fits _ _ _ c.places-at.ensures c.args.lengths.now asked.0 asked.1) in
+    omega (arith, sum-is c.args.lengths.now, sum_in_32 _ _ _ c.places-at.ensures c.args.lengths.now asked.0 asked.1) in
     search rules
 
 pub set_header-requires : goal.set_header-requires
 set_header-requires c =
     let asked = c.requires.lengths_len in
     let total : c.sum.result ≡ list_sum c.args.lengths.now = search rules in
-    omega (arith, sum-is c.args.lengths.now, sum_fits _ _ _ c.places-at.ensures c.args.lengths.now asked.0 asked.1)
+    omega (arith, sum-is c.args.lengths.now, sum_in_32 _ _ _ c.places-at.ensures c.args.lengths.now asked.0 asked.1)
 
 pub write_lengths-requires : goal.write_lengths-requires
 write_lengths-requires c =
     let asked = c.requires.lengths_len in
-    (omega arith, sum_fits _ _ _ c.places-at.ensures c.args.lengths.now asked.0 asked.1)
+    (omega arith, sum_in_32 _ _ _ c.places-at.ensures c.args.lengths.now asked.0 asked.1)
 
 pub returns : goal.returns
 returns c =
