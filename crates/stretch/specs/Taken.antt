@@ -1,5 +1,5 @@
 -- What a host is told of a step: the numbers, and what take_stretch leaves.
-use Rattle.std.specs.Prelude.{ℕ, ◌≡◌, List, Option, Some, None}
+use Rattle.std.specs.Prelude.{ℕ, ◌≡◌, List, [], Option, Some, None}
 use Rattle.error.specs.Number.{number_of}
 use Rattle.error.specs.declared.Error.{Error}
 use Rattle.error.specs.declared.Error.TheVariants.{PositionBeyond}
@@ -30,9 +30,10 @@ pub record Taken (p m : List ℕ) (s : Stretch) (given : List ℕ) (at : Positio
   pub next : at ≡ s.next
   pub number : refusal_number s.source ≡ 0
 
--- And of one that is: 34, with the positions as they were.
-pub record Refused (s : Stretch) (e : Error) (before at : Positions) : Type 0 where
+-- And of one that is: 34, with an empty part and the positions as they were.
+pub record Refused (p m : List ℕ) (s : Stretch) (e : Error) (before at : Positions) : Type 0 where
   pub error : e ≡ PositionBeyond
   pub number : refusal_number s.source ≡ number_of e
+  pub part : part_of p m s ≡ []
   pub next : at ≡ s.next
   pub unmoved : at ≡ before

@@ -123,8 +123,8 @@ pub fn next_stretch(
     }
 }
 
-// One step, whole: the next stretch itself, with the positions moved where they are lent; or 34, with the positions as
-// they were.
+// One step, whole: the next stretch itself, with the positions moved where they are lent; or 34, whose stretch is
+// empty, with the positions as they were.
 #[tactic(auto, using(crate::proofs::Chosen::next_stands, crate::proofs::Chosen::next_unmoved))]
 pub fn take_stretch<'a>(
     programme: &'a [u8],
@@ -135,7 +135,7 @@ pub fn take_stretch<'a>(
 ) -> Result<&'a [u8], Error>
     ensures { let s = next_stretch programme.now message.now message_flag capacity at.old in
         MatchResult result (λ part. Taken programme.now message.now s part.now at.new)
-        (λ e. Refused s e at.old at.new) }
+        (λ e. Refused programme.now message.now s e at.old at.new) }
 {
     let s = next_stretch(programme, message, message_flag, capacity, *at);
     *at = s.next;
