@@ -55,19 +55,19 @@ pub fn setup(slots: usize, packets: usize, packet_bytes: usize, base: usize) -> 
 }
 
 // The place after i, and the first after the last.
-fn next(i: usize, places: usize) -> usize {
+pub fn next(i: usize, places: usize) -> usize {
     let after = i.wrapping_add(1);
     if after < places { after } else { 0 }
 }
 
 // The address in its place; 0 where there is none.
 #[inline(never)]
-fn address_at(addresses: &[usize], i: usize) -> usize {
+pub fn address_at(addresses: &[usize], i: usize) -> usize {
     addresses.get(i).copied().unwrap_or(0)
 }
 
 // A round's k-th reply: the URB at the address is done, and no more is.
-fn reply(k: usize, address: usize) -> Result<usize, u32> {
+pub fn reply(k: usize, address: usize) -> Result<usize, u32> {
     if k == 0 { Ok(address) } else { Err(11) }
 }
 
